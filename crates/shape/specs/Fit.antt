@@ -1,0 +1,54 @@
+-- The fit of a map, axis by axis and line by line, for any way of solving a line; and what it leaves in scratch. Assumes nothing.
+--     o        the element read past the end of a list (never, in what is proved)
+--     solve    coefficient i of a line from the line's samples y: `solve y i`; of a line of axis a, `solve a y i`
+--     upper    upper number i of the elimination of that line
+use mathlib.Core.List.{List}
+use Prim.Native.Nat.{ℕ, zero, suc, _-_}
+use lib.ListN.{length}
+use Rattle.shape.specs.Shape.{longest, points, stride, lines, firstCell, first}
+use Rattle.shape.specs.Cells.{put, from, line, writeLine}
+
+-- ---- an axis of n points that are s apart
+
+module _ {A : Type 0} (o : A) (solve : (ℕ → A) → ℕ → A) (n s : ℕ) where
+  -- line l solved: its samples are replaced by its coefficients
+  unfoldable pub solveLine : ℕ → List A → List A
+  solveLine l xs = writeLine (firstCell n s l) s (solve (line o (firstCell n s l) s xs)) n xs
+
+  -- the lines below m solved, in order
+  unfoldable pub solveLines : ℕ → List A → List A
+  solveLines zero xs = xs
+  solveLines (suc m) xs = solveLine m (solveLines m xs)
+
+-- what solving a line of n points leaves in scratch: its upper numbers from 0 on, and from m on its right sides, which hold
+-- the coefficients once they are solved for; m is the length of the longest axis
+unfoldable pub lineScratch : {A : Type 0} → ℕ → (ℕ → A) → (ℕ → A) → ℕ → List A → List A
+lineScratch m upper right n scratch = put (from m) right n (put (from 0) upper n scratch)
+
+-- ---- all axes
+
+-- the entries along line l of axis a
+abbrev pub along : {A : Type 0} → A → List ℕ → ℕ → ℕ → List A → ℕ → A
+along o dims a l xs = line o (first dims a l) (stride dims a) xs
+
+module _ {A : Type 0} (o : A) (solve : ℕ → (ℕ → A) → ℕ → A) (dims : List ℕ) where
+  -- the fit after 0 axes is the samples; after a + 1 axes it is the fit after a axes with each line of axis a solved
+  unfoldable pub fitAfter : ℕ → List A → List A
+  fitAfter zero samples = samples
+  fitAfter (suc a) samples = solveLines o (solve a) (points dims a) (stride dims a) (lines dims a) (fitAfter a samples)
+
+  -- after all axes: the coefficients
+  abbrev pub fit : List A → List A
+  fit samples = fitAfter (length dims) samples
+
+-- scratch after a axes: that of the last line of each axis in turn
+module _ {A : Type 0} (o : A) (upper solve : ℕ → (ℕ → A) → ℕ → A) (dims : List ℕ) where
+  -- the samples of axis a's last line, when it is solved
+  abbrev pub lastLine : ℕ → List A → ℕ → A
+  lastLine a samples = along o dims a (lines dims a - 1) (fitAfter o solve dims a samples)
+
+  unfoldable pub scratchAfter : ℕ → List A → List A → List A
+  scratchAfter zero samples scratch = scratch
+  scratchAfter (suc a) samples scratch =
+      lineScratch (longest dims) (upper a (lastLine a samples)) (solve a (lastLine a samples)) (points dims a)
+      (scratchAfter a samples scratch)

@@ -1,0 +1,6 @@
+pub mod Shape
+pub mod Places
+pub mod Cells
+pub mod Fit
+pub mod Refusal
+pub mod Checks
