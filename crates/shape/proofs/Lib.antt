@@ -5,3 +5,4 @@ pub mod Numbering
 pub mod BaseIndex
 pub mod Accepted
 pub mod Found
+pub mod Fit

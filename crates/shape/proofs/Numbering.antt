@@ -9,7 +9,7 @@ use Prim.Native.Nat.{ℕ, zero, suc, _+_, _*_, _/_, _%_, _≤_, _<_}
 use native.Mathlib.Nat.{mod-lt, div-add-mod', div-div-eq-div-mul, mul-comm, mul-pos, div-lt-iff-lt-mul, mul-le-mul-right, mul-add-div-right, mul-add-mod-self-right, not-suc-le-zero, le-of-suc-le-suc, mod-one, div-eq-of-lt, mod-eq-of-lt, eq-of-mul-eq-mul-right}
 use native.Mathlib.Omega.{arith}
 use lib.ListN.{length, getD, take, drop}
-use Rattle.shape.specs.Shape.{product, size, points, stride, lines, isLine, first, cellAt, lineAt, placeAt, longest}
+use Rattle.shape.specs.Shape.{product, size, points, stride, lines, isLine, first, cellAt, lineAt, placeAt, lineOf, placeOf}
 use Rattle.shape.specs.Places.{places, count, without}
 use Rattle.shape.proofs.Radix.{NotEmpty, product-pos, stride-pos, cut, quot, rem, cellAt-lineAt, cellAt-lt, placeAt-lt, lineAt-cellAt}
 
@@ -18,7 +18,7 @@ later n ns h a b = h (suc a) (omega arith)
 
 -- a place is the entry of its axis
 pub places-at : (dims : List ℕ) (a cell : ℕ) → a < length dims → getD (places dims cell) a 0 ≡ placeAt dims a cell
-unfolding places placeAt
+unfolding places placeOf
 places-at [] a cell h = absurd (not-suc-le-zero h)
 places-at (n ∷ ns) zero cell h = refl
 places-at (n ∷ ns) (suc a) cell h = places-at ns a cell (le-of-suc-le-suc h)
@@ -37,7 +37,7 @@ places-add (n ∷ ns) ne q r =
     rw (e, d, t)
 
 line-add : (ns : List ℕ) → NotEmpty ns → (a : ℕ) → a < length ns → (q r : ℕ) → lineAt ns a (q * product ns + r) ≡ q * lines ns a + lineAt ns a r
-unfolding lineAt
+unfolding lineOf
 line-add ns ne a ha q r =
     let s : ℕ = stride ns a in
     let n : ℕ = points ns a in
@@ -75,7 +75,7 @@ lines-without (n ∷ ns) (suc a) h = rw (lines-without ns a (le-of-suc-le-suc h)
 
 pub line-counts : (dims : List ℕ) → NotEmpty dims → (a : ℕ) → a < length dims → (c : ℕ) → c < size dims
     → lineAt dims a c ≡ count (without a dims) (without a (places dims c))
-unfolding count places product without lineAt
+unfolding count places product without lineOf
 line-counts [] ne a ha c hc = absurd (not-suc-le-zero ha)
 line-counts (n ∷ ns) ne zero ha c hc =
     let ne′ : NotEmpty ns = later n ns ne in

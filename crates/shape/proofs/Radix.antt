@@ -6,7 +6,7 @@ use native.Mathlib.Nat.{mul-add-div-right, mul-add-mod-self-right, div-eq-of-lt,
 use native.Mathlib.Omega.{arith}
 use lib.ListN.{length, getD, take, drop, length-take}
 use lib.Seq.{getD-take, length-take-le}
-use Rattle.shape.specs.Shape.{product, size, points, stride, lines, first, firstCell, cellAt, lineAt, placeAt}
+use Rattle.shape.specs.Shape.{product, size, points, stride, lines, first, firstCell, lineOf, placeOf, cellAt, lineAt, placeAt}
 
 -- ---- quotient and remainder are determined
 
@@ -43,6 +43,27 @@ module _ (n s : ℕ) (hs : 0 < s) where
       let e₄ : c / (n * s) * n + c / s % n ≡ c / s = rw e₃ at e₂ in
       let e₅ : (c / (n * s) * n + c / s % n) * s ≡ c / s * s = ap (λ (x : ℕ). x * s) e₄ in
       omega arith
+
+  -- cell and (line, place) determine one another
+  pub lineOf-cell : (l i : ℕ) → i < n → lineOf n s (firstCell n s l + i * s) ≡ l
+  unfolding lineOf firstCell
+  lineOf-cell l i h =
+      let hr : l % s < s = mod-lt l hs in
+      rw (whole (l / s) h hr, low (l / s) i hr) (div-add-mod' l s)
+
+  pub placeOf-cell : (l i : ℕ) → i < n → placeOf n s (firstCell n s l + i * s) ≡ i
+  unfolding placeOf firstCell
+  placeOf-cell l i h = mid (l / s) h (mod-lt l hs)
+
+  pub cell-lineOf : (c : ℕ) → firstCell n s (lineOf n s c) + placeOf n s c * s ≡ c
+  unfolding lineOf placeOf firstCell
+  cell-lineOf c =
+      let hr : c % s < s = mod-lt c hs in
+      rw (quot (c / (n * s)) hr, rem (c / (n * s)) hr) (digits c)
+
+pub placeOf-lt : (n s c : ℕ) → 0 < n → placeOf n s c < n
+unfolding placeOf
+placeOf-lt n s c h = mod-lt (c / s) h
 
 -- ---- the product of the lengths, cut at an axis
 
@@ -85,33 +106,19 @@ stride-pos dims h a = product-pos (drop (suc a) dims) (drop-not-empty dims (suc 
 
 module _ (dims : List ℕ) (ne : NotEmpty dims) (a : ℕ) where
   pub lineAt-cellAt : (l i : ℕ) → i < points dims a → lineAt dims a (cellAt dims a l i) ≡ l
-  unfolding lineAt firstCell
-  lineAt-cellAt l i h =
-      let hs : 0 < stride dims a = stride-pos dims ne a in
-      let hr : l % stride dims a < stride dims a = mod-lt l hs in
-      rw (whole (points dims a) (stride dims a) hs (l / stride dims a) h hr, low (points dims a) (stride dims a) hs (l / stride dims a) i hr)
-      (div-add-mod' l (stride dims a))
+  lineAt-cellAt l i h = lineOf-cell (points dims a) (stride dims a) (stride-pos dims ne a) l i h
 
   pub placeAt-cellAt : (l i : ℕ) → i < points dims a → placeAt dims a (cellAt dims a l i) ≡ i
-  unfolding placeAt firstCell
-  placeAt-cellAt l i h =
-      let hs : 0 < stride dims a = stride-pos dims ne a in
-      mid (points dims a) (stride dims a) hs (l / stride dims a) h (mod-lt l hs)
+  placeAt-cellAt l i h = placeOf-cell (points dims a) (stride dims a) (stride-pos dims ne a) l i h
 
   pub cellAt-lineAt : (c : ℕ) → cellAt dims a (lineAt dims a c) (placeAt dims a c) ≡ c
-  unfolding lineAt placeAt firstCell
-  cellAt-lineAt c =
-      let hs : 0 < stride dims a = stride-pos dims ne a in
-      let hr : c % stride dims a < stride dims a = mod-lt c hs in
-      rw (quot (c / (points dims a * stride dims a)) hr, rem (c / (points dims a * stride dims a)) hr)
-      (digits (points dims a) (stride dims a) hs c)
+  cellAt-lineAt c = cell-lineOf (points dims a) (stride dims a) (stride-pos dims ne a) c
 
   pub placeAt-lt : a < length dims → (c : ℕ) → placeAt dims a c < points dims a
-  unfolding placeAt
-  placeAt-lt h c = mod-lt (c / stride dims a) (ne a h)
+  placeAt-lt h c = placeOf-lt (points dims a) (stride dims a) c (ne a h)
 
   pub lineAt-lt : a < length dims → (c : ℕ) → c < size dims → lineAt dims a c < lines dims a
-  unfolding lineAt
+  unfolding lineOf
   lineAt-lt h c hc =
       let hs : 0 < stride dims a = stride-pos dims ne a in
       let q : ℕ = c / (points dims a * stride dims a) in
