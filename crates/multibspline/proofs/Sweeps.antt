@@ -2,16 +2,16 @@
 use mathlib.Core.Path.{_≡_, refl, sym, ap, _∙_}
 use mathlib.Core.Logic.{⊎-elim}
 use mathlib.Core.List.{List}
-use Prim.Native.Nat.{ℕ, zero, suc, _+_, _-_, _*_, _≤_, _<_}
+use Prim.Native.Nat.{ℕ, zero, suc, _+_, _-_, _≤_, _<_}
 use native.Mathlib.Nat.{eq-or-lt-of-le}
 use native.Mathlib.Omega.{arith}
-use lib.ListN.{length, getD, set, length-set}
+use lib.ListN.{length, set, length-set}
 use lib.Seq.{getD-set-same, getD-set-other, ext-getD}
 use lib.Ieee.{Float, Format, nan}
 use Rattle.shape.specs.Cells.{put, from, onLine, writeLine}
 use Rattle.shape.specs.Fit.{lineScratch}
 use Rattle.shape.proofs.Cells.{put-next, put-ext, from-unique}
-use Rattle.shape.proofs.Scratch.{length-scratch, scratch-upper, scratch-right, scratch-one, scratch-next, scratch-over, scratch-solved}
+use Rattle.shape.proofs.Scratch.{scratch-upper, scratch-right, scratch-one, scratch-next, scratch-over, scratch-solved}
 use Rattle.multibspline.specs.Thomas.{Row, Reduced, at, reduceAt, forward, back, backAt, backStep, solution}
 
 -- ---- the copy of the samples: cells below i are copied
