@@ -3,6 +3,7 @@ mod refusal;
 
 pub use refusal::Answer;
 pub use refusal::Refusal;
+
 ghost use mathlib.Core.Path.{_≡_};
 ghost use mathlib.Core.Bool.{cond, _&&_, false};
 ghost use Prim.Native.Nat.{ℕ, _+_, _*_, _<_, _≤_, min};
