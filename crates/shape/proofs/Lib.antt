@@ -1,5 +1,6 @@
 pub mod Lengths
 pub mod Cells
+pub mod Scratch
 pub mod Radix
 pub mod Numbering
 pub mod BaseIndex
