@@ -19,7 +19,7 @@ use Rattle.shape.specs.declared.answers.Refusal.the-variants.{AxisCount,
 use Rattle.shape.specs.declared.answers.Answer.{Answer}
 use Rattle.shape.specs.declared.answers.Answer.the-variants.{Accepted, Refused}
 use Rattle.shape.specs.Checks.{Check, firstRefusal, anyShort, mostPoints, shapeChecks, shapeAccepted}
-use Rattle.shape.specs.Usable.{Usable}
+use Rattle.shape.specs.Usable.{Usable, LinesWithin}
 use Rattle.shape.specs.Sizes.{coeffStorageLen, constructionScratchLen, strideOf, linesOf}
 use Rattle.shape.proofs.Lengths.{or-false}
 use Rattle.shape.proofs.Radix.{NotEmpty, product-pos, stride-pos, span-pos, cut, cellAt-lt}
@@ -248,3 +248,40 @@ module _ (count : ℕ) (lens : List ℕ) (a : ℕ) where
   pub lines-refused : shapeAccepted count lens ≡ false → _≡_ {A = ℕ} 0 (linesOf count lens a)
   unfolding linesOf
   lines-refused e = rw e
+
+-- ---- an axis, by the numbers that the code works out
+
+pub record AxisIs (count : ℕ) (lens : List ℕ) (a n s total m : ℕ) : Type 0 where
+  pub the-points : n ≡ points (take count lens) a
+  pub the-stride : s ≡ stride (take count lens) a
+  pub the-lines : total ≡ lines (take count lens) a
+  pub the-longest : m ≡ longest (take count lens)
+
+module _ (count : ℕ) (lens : List ℕ) (four : length lens ≡ 4) (u : Usable count lens) (a : ℕ) (ha : a < count) where
+  pub axis-is : {n s total m : ℕ} → n ≡ getD lens a 0 → s ≡ strideOf count lens a → total ≡ linesOf count lens a → m ≡ longest (take count lens) → AxisIs count lens a n s total m
+  axis-is en es et em =
+      let ok = usable-accepted count lens four u in
+      record {
+        the-points = en ∙ sym (points-are count lens four u a ha);
+        the-stride = es ∙ stride-is count lens ok a ha;
+        the-lines = et ∙ lines-are count lens ok a ha;
+        the-longest = em;
+      }
+
+  pub axis-within : {n s total m coefs scratch : ℕ} → AxisIs count lens a n s total m → coefs ≡ size (take count lens) → 2 * longest (take count lens) ≤ scratch → (0 < total) × LinesWithin n s total m coefs scratch
+  axis-within x ec hs =
+      let r = room count lens four u a ha in
+      let long = axis-le-longest (take count lens) a in
+      let p = r .four-points in
+      rw (x .the-points, x .the-stride, x .the-lines, x .the-longest, ec) (
+        mul-pos (r .outer-pos) (r .stride-pos),
+        record {
+          four-points = r .four-points;
+          stride-pos = r .stride-pos;
+          row-small = r .row-small;
+          inside = λ l hl. in-map count lens four u a l (points (take count lens) a - 1) ha hl (omega arith);
+          few-points = u .few-points;
+          upper-room = long;
+          right-room = omega arith;
+        },
+      )

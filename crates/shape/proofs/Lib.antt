@@ -7,3 +7,4 @@ pub mod BaseIndex
 pub mod Accepted
 pub mod Found
 pub mod Fit
+pub mod Loops

@@ -23,6 +23,13 @@ module _ {A : Type 0} (place : ℕ → ℕ) (g : ℕ → A) where
   put-over zero l x = set-set l (place 0) x (g 0)
   put-over (suc n) l x = ap (λ (r : List A). set r (place (suc n)) (g (suc n))) (put-over n l x)
 
+-- cells at other places may be put before or after
+pub put-put : {A : Type 0} (p q : ℕ → ℕ) (g h : ℕ → A) (n k : ℕ) (l : List A) → ((i j : ℕ) → i < n → j < k → q j ≢ p i) → put p g n (put q h k l) ≡ put q h k (put p g n l)
+put-put p q g h n zero l away = refl
+put-put {A = A} p q g h n (suc k) l away =
+    put-set p g n (put q h k l) (q k) (h k) (λ i hi. away i k hi (omega arith))
+    ∙ ap (λ (r : List A). set r (q k) (h k)) (put-put p q g h n k l (λ i j hi hj. away i j hi (omega arith)))
+
 module _ {A : Type 0} (m : ℕ) (u g : ℕ → A) where
   pub length-scratch : (n : ℕ) (l : List A) → length (lineScratch m u g n l) ≡ length l
   unfolding lineScratch
@@ -80,3 +87,13 @@ pub scratch-ext : {A : Type 0} (m : ℕ) (u u′ g g′ : ℕ → A) (n : ℕ) (
     → ((k : ℕ) → k < n → u k ≡ u′ k) → ((k : ℕ) → k < n → g k ≡ g′ k) → lineScratch m u g n l ≡ lineScratch m u′ g′ n l
 unfolding lineScratch
 scratch-ext m u u′ g g′ n l eu eg = rw (put-ext (from 0) u u′ n l eu, put-ext (from m) g g′ n (put (from 0) u′ n l) eg)
+
+-- what the line before left does not matter
+pub scratch-again : {A : Type 0} (m : ℕ) (u g u′ g′ : ℕ → A) (n : ℕ) (l : List A) (d : A) → n ≤ m → m + n ≤ length l → lineScratch m u g n (lineScratch m u′ g′ n l) ≡ lineScratch m u g n l
+unfolding lineScratch
+scratch-again m u g u′ g′ n l d room fits =
+    let below = put (from 0) u′ n l in
+    let len : length (put (from 0) u n below) ≡ length l = length-put (from 0) u n below ∙ length-put (from 0) u′ n l in
+    ap (put (from m) g n) (put-put (from 0) (from m) u g′ n n below (λ i j hi hj. λ e. omega arith))
+    ∙ from-over m g g′ n (put (from 0) u n below) d (rw len fits)
+    ∙ ap (put (from m) g n) (from-over 0 u u′ n l d (omega arith))
