@@ -7,9 +7,10 @@ use borrow.Author.Tests.{eq-eqb, ne-eqb}
 use lib.ListN.{set}
 use lib.Ieee as Ieee
 use lib.Ieee.{Float, Format}
+use Rattle.multibspline.specs.Numbers.{f0, f1, f-1, f4, f6}
 use Rattle.multibspline.specs.Thomas.{Row, Reduced, reduceAt}
 use Rattle.multibspline.proofs.Sweeps.{back-ext}
-use Rattle.regular.specs.Rows.{f0, f1, f-1, f4, f6, row, reduced, upperNumber, coefficient}
+use Rattle.regular.specs.Rows.{row, reduced, upperNumber, coefficient}
 
 -- scratch with row i reduced
 abbrev pub withRow : Format → ℕ → ℕ → List Float → Row → List Float
