@@ -1,5 +1,7 @@
 // What a call answers: that it was accepted, or why it was refused. A refused call leaves its buffers as they were, but for
 // the cases that its own comment names. The numbers are those of specs/Refusal.antt.
+ghost use mathlib.Core.Path.{_≡_};
+ghost use Rattle.shape.specs.Refusal.{refusalNumber, answerNumber};
 
 pub enum Refusal {
     // 1: no axes, or more than four
@@ -25,6 +27,36 @@ pub enum Refusal {
 pub enum Answer {
     Accepted,
     Refused(Refusal),
+}
+
+impl Refusal {
+    pub fn number(self) -> u64
+        ensures { λ n. ⌜ n ≡ refusalNumber self ⌝ }
+    {
+        match self {
+            Refusal::AxisCount => 1,
+            Refusal::DimensionMismatch => 2,
+            Refusal::TooManyPoints => 3,
+            Refusal::ScratchTooSmall => 4,
+            Refusal::NotIncreasing => 5,
+            Refusal::Unrepresentable => 6,
+            Refusal::NoSuchLine => 7,
+            Refusal::AlreadySolved => 8,
+            Refusal::NotDue => 9,
+        }
+    }
+}
+
+impl Answer {
+    // 0 where the call was accepted.
+    pub fn number(self) -> u64
+        ensures { λ n. ⌜ n ≡ answerNumber self ⌝ }
+    {
+        match self {
+            Answer::Accepted => 0,
+            Answer::Refused(refusal) => refusal.number(),
+        }
+    }
 }
 
 // Where a line begins.
