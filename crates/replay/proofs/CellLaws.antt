@@ -10,7 +10,7 @@ use lib.Seq.{drop-cons, take-suc, take-suc-set, take-all}
 use lib.Ieee.{Float, nan, add, binary64}
 use borrow.Author.Tests.{not-true, not-false}
 use Rattle.float_text.specs.Bits.{sameBits}
-use Rattle.replay.specs.Cells.{counted, everyPair}
+use Rattle.replay.specs.Cells.{counted, everyPair, sameCells, half, one, minusQuarter, minusOne, isUntouched}
 
 -- ---- cells that count
 
@@ -123,3 +123,14 @@ unfolding everyPair counted
 Filled-done first step cells x i h l =
     let z : length cells - i ≡ 0 = omega arith in
     sym (h .rest ∙ rw (drop-of-length-le cells l, z))
+
+-- ---- both buffers
+
+module _ (coefs scratch : List Float) (a : Bool) (e : a ≡ sameCells coefs (counted half one (length coefs))) where
+  pub Untouched-first : a ≡ false → false ≡ isUntouched coefs scratch
+  unfolding isUntouched
+  Untouched-first n = rw (← e, n)
+
+  pub Untouched-second : a ≡ true → (b : Bool) → b ≡ sameCells scratch (counted minusQuarter minusOne (length scratch)) → b ≡ isUntouched coefs scratch
+  unfolding isUntouched
+  Untouched-second n b f = rw (← e, n) f

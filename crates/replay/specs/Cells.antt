@@ -2,7 +2,9 @@
 use mathlib.Core.Bool.{Bool, true, false, _&&_}
 use mathlib.Core.List.{List, [], _∷_}
 use Prim.Native.Nat.{ℕ, zero, suc}
-use lib.Ieee.{Float, binary64, add, sub, neg, le}
+use lib.IntN.{pos, negsuc}
+use lib.ListN.{length}
+use lib.Ieee.{Float, fin, binary64, add, sub, neg, le}
 use Rattle.float_text.specs.Bits.{sameBits}
 
 -- n cells that count from x on, by a step
@@ -27,3 +29,21 @@ isNear tolerance x y = le (sub binary64 x y) tolerance && le (neg tolerance) (su
 
 abbrev pub nearCells : Float → List Float → List Float → Bool
 nearCells tolerance xs ys = everyPair (isNear tolerance) xs ys
+
+-- 1/2, 1, -1/4 and -1
+abbrev pub half : Float
+half = fin false 1 (negsuc 0)
+
+abbrev pub one : Float
+one = fin false 1 (pos 0)
+
+abbrev pub minusQuarter : Float
+minusQuarter = fin true 1 (negsuc 1)
+
+abbrev pub minusOne : Float
+minusOne = fin true 1 (pos 0)
+
+-- both buffers are as they are before every call: coefficient cell i holds i + 1/2, scratch cell i holds -i - 1/4
+unfoldable pub isUntouched : List Float → List Float → Bool
+isUntouched coefs scratch =
+    sameCells coefs (counted half one (length coefs)) && sameCells scratch (counted minusQuarter minusOne (length scratch))

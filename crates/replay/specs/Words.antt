@@ -6,9 +6,10 @@ use Prim.Native.Nat.{ℕ, _+_, _*_, _/_, _<_}
 use lib.Dec.{eqb, ltb}
 use lib.ListN.{length, getD, take, drop, set}
 use lib.Ieee.{Float, nan, ofBits, binary64}
-use Rattle.float_text.specs.Bits.{bitsIn}
+use Rattle.float_text.specs.Bits.{bitsIn, sameBits}
 use Rattle.float_text.specs.declared.Pattern.{Pattern}
 use Rattle.float_text.specs.declared.Pattern.the-variants.{Bits, Unreadable}
+use Rattle.replay.specs.Cells.{isNear}
 
 -- a space or a newline
 unfoldable pub isGap : ℕ → Bool
@@ -44,3 +45,19 @@ pub record IsWord {A : Type 0} (make : ℕ → A) (o : A) (text : List ℕ) (xs 
 -- the first n elements are what is made of the first n words, where those were read
 abbrev pub AreWords : {A : Type 0} → (ℕ → A) → A → List ℕ → ℕ → Bool → List A → Type 0
 AreWords make o text n answer xs = answer ≡ true → (i : ℕ) → i < n → IsWord make o text xs i
+
+-- cell i passes a test with the float of word i
+pub record Passes (test : Float → Float → Bool) (text : List ℕ) (cells : List Float) (i : ℕ) : Type 0 where
+  pub bits : ℕ
+  pub read : wordAt text i ≡ Bits bits
+  pub passes : test (getD cells i nan) (float bits) ≡ true
+
+-- every cell does, with the words from word `first` on
+abbrev pub MatchWords : (Float → Float → Bool) → List ℕ → ℕ → List Float → Type 0
+MatchWords test text first cells = (i : ℕ) → i < length cells → Passes test (drop (first * 17) text) cells i
+
+-- a fit is as a record of this kind expects: a published figure has near coefficients, any other fit the same bits
+pub record MatchFit (kind tolerance : ℕ) (text : List ℕ) (samples : ℕ) (coefs scratch : List Float) : Type 0 where
+  pub near : kind ≡ 3 → MatchWords (isNear (float tolerance)) text (10 + samples) coefs
+  pub same : (kind ≡ 3 → ⊥) → MatchWords sameBits text (10 + samples) coefs
+  pub left : (kind ≡ 3 → ⊥) → MatchWords sameBits text (10 + samples + length coefs) scratch

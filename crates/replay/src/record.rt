@@ -2,6 +2,9 @@
 ghost use mathlib.Core.Path.{_≡_};
 ghost use Prim.Native.Nat.{_<_, _≤_};
 ghost use lib.ListN.{length};
+ghost use Rattle.float_text.specs.Bits.{sameBits};
+ghost use Rattle.replay.specs.Cells.{isNear, isUntouched};
+ghost use Rattle.replay.specs.Words.{MatchWords, MatchFit};
 ghost use Rattle.shape.specs.Refusal.{refusalNumber, answerNumber};
 use crate::cells;
 use crate::words;
@@ -76,7 +79,9 @@ fn fit(numbers: &[u64], samples: &[f64], coeffs: &mut [f64], scratch: &mut [f64]
 }
 
 // Cells against the words from `first` on, which are read into `read`, a buffer of that many cells.
-fn compare_read(text: &[u8], first: usize, cells: &[f64], read: &mut [f64]) -> Compared {
+fn compare_read(text: &[u8], first: usize, cells: &[f64], read: &mut [f64]) -> Compared
+    ensures { λ r. ⌜ (r ≡ Compared.Same → MatchWords sameBits (now (text .entry)) first (now (cells .entry))) ⌝ }
+{
     if !words::read_floats(text, first, read) {
         return Compared::Unreadable;
     }
@@ -87,7 +92,9 @@ fn compare_read(text: &[u8], first: usize, cells: &[f64], read: &mut [f64]) -> C
 }
 
 // The same, with a buffer that may be longer.
-fn compare(text: &[u8], first: usize, cells: &[f64], spare: &mut [f64]) -> Compared {
+fn compare(text: &[u8], first: usize, cells: &[f64], spare: &mut [f64]) -> Compared
+    ensures { λ r. ⌜ (r ≡ Compared.Same → MatchWords sameBits (now (text .entry)) first (now (cells .entry))) ⌝ }
+{
     let n = cells.len();
     if n > spare.len() {
         return Compared::Unreadable;
@@ -102,7 +109,9 @@ fn compare_near_read(
     first: usize,
     cells: &[f64],
     read: &mut [f64],
-) -> Compared {
+) -> Compared
+    ensures { λ r. ⌜ (r ≡ Compared.Same → MatchWords (isNear tolerance) (now (text .entry)) first (now (cells .entry))) ⌝ }
+{
     if !words::read_floats(text, first, read) {
         return Compared::Unreadable;
     }
@@ -118,7 +127,9 @@ fn compare_near(
     first: usize,
     cells: &[f64],
     spare: &mut [f64],
-) -> Compared {
+) -> Compared
+    ensures { λ r. ⌜ (r ≡ Compared.Same → MatchWords (isNear tolerance) (now (text .entry)) first (now (cells .entry))) ⌝ }
+{
     let n = cells.len();
     if n > spare.len() {
         return Compared::Unreadable;
@@ -134,7 +145,10 @@ fn compare_both(
     second: usize,
     scratch: &[f64],
     spare: &mut [f64],
-) -> Compared {
+) -> Compared
+    ensures { λ r. ⌜ (r ≡ Compared.Same → MatchWords sameBits (now (text .entry)) first (now (coeffs .entry))) ⌝ }
+    ensures { λ r. ⌜ (r ≡ Compared.Same → MatchWords sameBits (now (text .entry)) second (now (scratch .entry))) ⌝ }
+{
     let coefs = compare(text, first, coeffs, spare);
     match coefs {
         Compared::Same => compare(text, second, scratch, spare),
@@ -154,6 +168,7 @@ fn compare_fit(
     spare: &mut [f64],
 ) -> Compared
     requires { ⌜ (samples ≤ 2048) × (length (now coeffs) ≤ 2048) ⌝ }
+    ensures { λ r. ⌜ (r ≡ Compared.Same → MatchFit kind tolerance (now (text .entry)) samples (now (coeffs .entry)) (now (scratch .entry))) ⌝ }
 {
     let first = 10 + samples;
     let second = first + coeffs.len();
@@ -164,7 +179,9 @@ fn compare_fit(
 }
 
 // Whether a refused call left both buffers as they were.
-fn is_untouched(coeffs: &[f64], scratch: &[f64]) -> bool {
+fn is_untouched(coeffs: &[f64], scratch: &[f64]) -> bool
+    ensures { λ r. ⌜ r ≡ isUntouched (now (coeffs .entry)) (now (scratch .entry)) ⌝ }
+{
     if cells::is_filled(0.5, 1.0, coeffs) {
         return cells::is_filled(-0.25, -1.0, scratch);
     }

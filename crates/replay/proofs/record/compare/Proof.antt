@@ -2,6 +2,7 @@
 use native.Mathlib.Omega.{arith}
 use lib.ListN.{length-take}
 use borrow.Author.Needs.{needs}
+use Rattle.replay.proofs.WordLaws.{not-unreadable}
 use Rattle.replay.proofs.record.compare.Statement.{statement}
 use Rattle.replay.proofs.record.compare.Tie as tie
 
@@ -9,9 +10,9 @@ pub compare-spec : {M : Type 1} → statement M
 compare-spec =
     tie.close
     (tie.spec
-    (λ c. search needs)
+    (λ c. not-unreadable)
     (λ c. search needs)
     (λ c. simp length-take (omega arith))
     (λ c κs. search needs)
     (λ c. search needs)
-    (λ c. search needs))
+    (λ c. c .before .before .compare-read .ensures))
