@@ -84,7 +84,14 @@ fn set_entry(base: usize, stride: usize, n: usize, i: usize, v: f64, coeffs: &mu
 }
 
 // The solution is copied to the line.
-pub fn copy_line(base: usize, stride: usize, n: usize, m: usize, scratch: &[f64], coeffs: &mut [f64])
+pub fn copy_line(
+    base: usize,
+    stride: usize,
+    n: usize,
+    m: usize,
+    scratch: &[f64],
+    coeffs: &mut [f64],
+)
     requires { ⌜ m + n ≤ length (now scratch) ⌝ }
     requires { ⌜ onLine base stride (n - 1) < length (now coeffs) ⌝ }
     ensures { λ _. ⌜ now (coeffs .exit) ≡ writeLine base stride (λ k. at (now (scratch .entry)) (m + k)) n (now (coeffs .entry)) ⌝ }

@@ -1,7 +1,7 @@
 -- What `solve_line` answers and leaves. The line is n cells of coefs, from base, stride apart; scratch has the upper numbers
 -- from 0 on and the right sides from m on. Assumes nothing.
 use mathlib.Core.Path.{_≡_}
-use mathlib.Core.Bool.{Bool, cond, not, _||_}
+use mathlib.Core.Bool.{cond, not, _||_}
 use mathlib.Core.List.{List, [], _∷_}
 use Prim.Native.Nat.{ℕ, _+_, _-_}
 use lib.Dec.{eqb, ltb}

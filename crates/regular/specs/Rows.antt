@@ -1,28 +1,12 @@
 -- The system of one line of a regular grid: n samples y, n coefficients x. Rows: first 1, -1 with y(0) - y(1); inner 1, 4, 1
 -- with 6 y(i); last -1, 1 with y(n-1) - y(n-2). Each operation is rounded to the format f. Assumes nothing.
-use Prim.Native.Nat.{ℕ, zero, suc, _-_}
-use mathlib.Core.Bool.{true, false, cond}
+use Prim.Native.Nat.{ℕ, _-_}
+use mathlib.Core.Bool.{cond}
 use lib.Dec.{eqb}
-use lib.IntN.{pos}
 use lib.Ieee as Ieee
-use lib.Ieee.{Float, Format, fin}
+use lib.Ieee.{Float, Format}
+use Rattle.multibspline.specs.Numbers.{f0, f1, f-1, f4, f6}
 use Rattle.multibspline.specs.Thomas.{Row, Reduced, forward, solution}
-
--- 0, 1, -1, 4 and 6
-abbrev pub f0 : Float
-f0 = fin false 0 (pos 0)
-
-abbrev pub f1 : Float
-f1 = fin false 1 (pos 0)
-
-abbrev pub f-1 : Float
-f-1 = fin true 1 (pos 0)
-
-abbrev pub f4 : Float
-f4 = fin false 1 (pos 2)
-
-abbrev pub f6 : Float
-f6 = fin false 3 (pos 1)
 
 -- row 0 as it stands is reduced, since its diagonal is 1
 abbrev pub firstRow : Format → (ℕ → Float) → Reduced

@@ -1,4 +1,6 @@
 // Cubic B-spline maps on a regular grid, double precision. After interpn's multibspline::regular.
+mod fit;
 mod line;
 
+pub use fit::coefficients;
 pub use line::solve_line;

@@ -1,2 +1,10 @@
 pub mod Lengths
 pub mod Cells
+pub mod Scratch
+pub mod Radix
+pub mod Numbering
+pub mod BaseIndex
+pub mod Accepted
+pub mod Found
+pub mod Fit
+pub mod Loops

@@ -32,23 +32,30 @@ abbrev pub along : {A : Type 0} → A → List ℕ → ℕ → ℕ → List A �
 along o dims a l xs = line o (first dims a l) (stride dims a) xs
 
 module _ {A : Type 0} (o : A) (solve : ℕ → (ℕ → A) → ℕ → A) (dims : List ℕ) where
+  -- each line of axis a solved
+  abbrev pub solveAxis : ℕ → List A → List A
+  solveAxis a xs = solveLines o (solve a) (points dims a) (stride dims a) (lines dims a) xs
+
   -- the fit after 0 axes is the samples; after a + 1 axes it is the fit after a axes with each line of axis a solved
   unfoldable pub fitAfter : ℕ → List A → List A
   fitAfter zero samples = samples
-  fitAfter (suc a) samples = solveLines o (solve a) (points dims a) (stride dims a) (lines dims a) (fitAfter a samples)
+  fitAfter (suc a) samples = solveAxis a (fitAfter a samples)
 
   -- after all axes: the coefficients
   abbrev pub fit : List A → List A
   fit samples = fitAfter (length dims) samples
 
--- scratch after a axes: that of the last line of each axis in turn
 module _ {A : Type 0} (o : A) (upper solve : ℕ → (ℕ → A) → ℕ → A) (dims : List ℕ) where
-  -- the samples of axis a's last line, when it is solved
-  abbrev pub lastLine : ℕ → List A → ℕ → A
-  lastLine a samples = along o dims a (lines dims a - 1) (fitAfter o solve dims a samples)
+  -- what solving axis a of xs leaves in scratch: what its last line does
+  abbrev pub axisScratch : ℕ → List A → List A → List A
+  axisScratch a xs scratch =
+      lineScratch (longest dims)
+      (upper a (along o dims a (lines dims a - 1) xs))
+      (solve a (along o dims a (lines dims a - 1) xs))
+      (points dims a)
+      scratch
 
+  -- scratch after a axes: that of each axis in turn
   unfoldable pub scratchAfter : ℕ → List A → List A → List A
   scratchAfter zero samples scratch = scratch
-  scratchAfter (suc a) samples scratch =
-      lineScratch (longest dims) (upper a (lastLine a samples)) (solve a (lastLine a samples)) (points dims a)
-      (scratchAfter a samples scratch)
+  scratchAfter (suc a) samples scratch = axisScratch a (fitAfter o solve dims a samples) (scratchAfter a samples scratch)

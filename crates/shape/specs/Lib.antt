@@ -4,3 +4,5 @@ pub mod Cells
 pub mod Fit
 pub mod Refusal
 pub mod Checks
+pub mod Usable
+pub mod Sizes

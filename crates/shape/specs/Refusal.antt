@@ -1,9 +1,9 @@
 -- The numbers of the refusals. Assumes nothing.
 use Prim.Native.Nat.{ℕ}
-use Rattle.shape.specs.declared.refusal.Refusal.{Refusal}
-use Rattle.shape.specs.declared.refusal.Refusal.the-variants.{AxisCount, DimensionMismatch, TooManyPoints, ScratchTooSmall, NotIncreasing, Unrepresentable, NoSuchLine, AlreadySolved, NotDue}
-use Rattle.shape.specs.declared.refusal.Answer.{Answer}
-use Rattle.shape.specs.declared.refusal.Answer.the-variants.{Accepted, Refused}
+use Rattle.shape.specs.declared.answers.Refusal.{Refusal}
+use Rattle.shape.specs.declared.answers.Refusal.the-variants.{AxisCount, DimensionMismatch, TooManyPoints, ScratchTooSmall, NotIncreasing, Unrepresentable, NoSuchLine, AlreadySolved, NotDue}
+use Rattle.shape.specs.declared.answers.Answer.{Answer}
+use Rattle.shape.specs.declared.answers.Answer.the-variants.{Accepted, Refused}
 
 abbrev pub refusalNumber : Refusal → ℕ
 refusalNumber AxisCount = 1

@@ -35,9 +35,20 @@ lines dims a = product (take a dims) * stride dims a
 abbrev pub isLine : List ℕ → ℕ → ℕ → Bool
 isLine dims a l = ltb a (length dims) && ltb l (lines dims a)
 
--- the first cell of line l of an axis of n points that are s apart: l % s counts the later axes, l / s the earlier ones
+-- ---- an axis of n points that are s apart
+
+-- the first cell of line l: l % s counts the later axes, l / s the earlier ones
 unfoldable pub firstCell : ℕ → ℕ → ℕ → ℕ
 firstCell n s l = l / s * (n * s) + l % s
+
+-- the line that runs through a cell, and the cell's place on it
+unfoldable pub lineOf : ℕ → ℕ → ℕ → ℕ
+lineOf n s cell = cell / (n * s) * s + cell % s
+
+unfoldable pub placeOf : ℕ → ℕ → ℕ → ℕ
+placeOf n s cell = cell / s % n
+
+-- ---- axis a
 
 -- the first cell of line l of axis a
 abbrev pub first : List ℕ → ℕ → ℕ → ℕ
@@ -48,8 +59,8 @@ abbrev pub cellAt : List ℕ → ℕ → ℕ → ℕ → ℕ
 cellAt dims a l i = first dims a l + i * stride dims a
 
 -- the line of axis a that runs through a cell, and the cell's place on it
-unfoldable pub lineAt : List ℕ → ℕ → ℕ → ℕ
-lineAt dims a cell = cell / (points dims a * stride dims a) * stride dims a + cell % stride dims a
+abbrev pub lineAt : List ℕ → ℕ → ℕ → ℕ
+lineAt dims a cell = lineOf (points dims a) (stride dims a) cell
 
-unfoldable pub placeAt : List ℕ → ℕ → ℕ → ℕ
-placeAt dims a cell = cell / stride dims a % points dims a
+abbrev pub placeAt : List ℕ → ℕ → ℕ → ℕ
+placeAt dims a cell = placeOf (points dims a) (stride dims a) cell

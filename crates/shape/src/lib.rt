@@ -1,17 +1,18 @@
-// The shape of a map of one to four axes, and the refusals of the library's calls. No floats here.
-mod refusal;
+// The shape of a map of one to four axes, and the answers of the library's calls. No floats here.
+mod answers;
+mod axes;
+mod spans;
 
-pub use refusal::Answer;
-pub use refusal::Refusal;
-
+pub use answers::Answer;
+pub use answers::FirstCell;
+pub use answers::Refusal;
+pub use spans::first_cell_of;
 ghost use mathlib.Core.Path.{_≡_};
-ghost use mathlib.Core.Bool.{cond, _&&_, false};
-ghost use Prim.Native.Nat.{ℕ, _+_, _*_, _<_, _≤_, min};
-ghost use lib.Dec.{ltb};
-ghost use lib.ListN.{take, drop, getD};
-ghost use Rattle.shape.specs.Shape.{product, longest, size, stride, lines, first, firstCell, isLine};
-ghost use Rattle.shape.specs.Checks.{anyShort, shapeChecks, shapeAccepted, firstRefusal};
+ghost use lib.ListN.{take};
+ghost use Rattle.shape.specs.Shape.{longest};
+ghost use Rattle.shape.specs.Checks.{shapeChecks, firstRefusal};
 ghost use Rattle.shape.specs.Refusal.{answerNumber};
+ghost use Rattle.shape.specs.Sizes.{coeffStorageLen, constructionScratchLen, strideOf, linesOf, FirstCellFound};
 
 // Axis count and lengths, axis 0 first; lengths past the axis count are not looked at. The last axis is the fastest.
 pub struct Shape {
@@ -19,63 +20,63 @@ pub struct Shape {
     pub dims: [usize; 4],
 }
 
+// Each method looks at the shape anew. A method that has no answer for a shape or an axis says 0, or the refusal.
 impl Shape {
     // Accepted, or the first of: 1, the axis count is not 1 to 4; 2, an axis has fewer than 4 points; 3, the map has more
     // than 16,777,216 points.
     pub fn check(self) -> Answer
         ensures { λ r. ⌜ answerNumber r ≡ firstRefusal (shapeChecks (self .count) (self .dims)) ⌝ }
     {
-        let count = self.count;
         let dims = self.dims;
-        if count == 0 {
-            return Answer::Refused(Refusal::AxisCount);
-        }
-        if 4 < count {
-            return Answer::Refused(Refusal::AxisCount);
-        }
-        if any_short(dims, count) {
-            return Answer::Refused(Refusal::DimensionMismatch);
-        }
-        if 16777216 < points_to_limit(dims, count) {
-            return Answer::Refused(Refusal::TooManyPoints);
-        }
-        Answer::Accepted
+        axes::check(self.count, dims)
     }
-}
 
-// Whether one of the first `count` lengths is below four.
-fn any_short(dims: [usize; 4], count: usize) -> bool
-    requires { ⌜ count ≤ 4 ⌝ }
-    ensures { λ r. ⌜ r ≡ anyShort (take count dims) ⌝ }
-{
-    let mut i = 0;
-    while i < count {
-        if dims[i] < 4 {
-            return true;
-        }
-        i += 1;
+    // The length of the longest axis.
+    pub fn longest(self) -> usize
+        ensures { λ r. ⌜ r ≡ longest (take (self .count) (self .dims)) ⌝ }
+    {
+        let dims = self.dims;
+        axes::longest(self.count, dims)
     }
-    false
-}
 
-// The product of the first `count` lengths, or 16,777,217 where it is above 16,777,216. Division tests each factor before
-// it is multiplied, so that no length can make it overflow.
-fn points_to_limit(dims: [usize; 4], count: usize) -> usize
-    requires { ⌜ (count ≤ 4) × (anyShort (take count dims) ≡ false) ⌝ }
-    ensures { λ r. ⌜ r ≡ min (size (take count dims)) 16777217 ⌝ }
-{
-    let mut total: usize = 1;
-    let mut i = 0;
-    while i < count {
-        let n = dims[i];
-        if n == 0 {
-            return 0;
-        }
-        if 16777216 / n < total {
-            return 16777217;
-        }
-        total = total * n;
-        i += 1;
+    // How many coefficients the map has, as many as it has points.
+    pub fn coeff_storage_len(self) -> usize
+        ensures { λ r. ⌜ r ≡ coeffStorageLen (self .count) (self .dims) ⌝ }
+    {
+        let dims = self.dims;
+        axes::coeff_storage_len(self.count, dims)
     }
-    total
+
+    // How much scratch a fit needs, twice the longest axis.
+    pub fn construction_scratch_len(self) -> usize
+        ensures { λ r. ⌜ r ≡ constructionScratchLen (self .count) (self .dims) ⌝ }
+    {
+        let dims = self.dims;
+        axes::construction_scratch_len(self.count, dims)
+    }
+
+    // How far apart two neighbours on an axis are: 1 on the last axis.
+    pub fn stride(self, axis: usize) -> usize
+        ensures { λ r. ⌜ r ≡ strideOf (self .count) (self .dims) axis ⌝ }
+    {
+        let dims = self.dims;
+        axes::stride(self.count, dims, axis)
+    }
+
+    // How many lines an axis has.
+    pub fn lines(self, axis: usize) -> usize
+        ensures { λ r. ⌜ r ≡ linesOf (self .count) (self .dims) axis ⌝ }
+    {
+        let dims = self.dims;
+        axes::lines(self.count, dims, axis)
+    }
+
+    // The first cell of a line, or the refusal: 1 to 3 for the shape, 7 where there is no such axis or line. After the
+    // Rust's line_base_index.
+    pub fn first_cell(self, axis: usize, line: usize) -> FirstCell
+        ensures { λ r. ⌜ FirstCellFound (self .count) (self .dims) axis line r ⌝ }
+    {
+        let dims = self.dims;
+        axes::first_cell(self.count, dims, axis, line)
+    }
 }

@@ -6,8 +6,8 @@ use borrow.Author.Tests.{lt-ltb, le-ltb}
 use lib.ListN.{length, take, drop}
 use Rattle.shape.specs.Checks.{anyShort}
 use Rattle.shape.proofs.Lengths.{short-cons, short-end}
-use Rattle.shape.proofs.any_short.Statement.{statement}
-use Rattle.shape.proofs.any_short.Tie as tie
+use Rattle.shape.proofs.spans.any_short.Statement.{statement}
+use Rattle.shape.proofs.spans.any_short.Tie as tie
 
 abbrev Inv-loop : tie.InvT-loop
 Inv-loop count dims i₀ i = (i ≤ count) × (anyShort (take count dims) ≡ anyShort (drop i (take count dims)))

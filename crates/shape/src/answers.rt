@@ -26,3 +26,9 @@ pub enum Answer {
     Accepted,
     Refused(Refusal),
 }
+
+// Where a line begins.
+pub enum FirstCell {
+    At(usize),
+    Refused(Refusal),
+}

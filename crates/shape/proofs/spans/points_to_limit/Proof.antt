@@ -9,10 +9,10 @@ use lib.ListN.{length, take, drop, getD}
 use Rattle.shape.specs.Checks.{anyShort}
 use Rattle.shape.specs.Shape.{product}
 use Rattle.shape.proofs.Lengths.{short-cons, short-end, product-cons, product-end, or-false, product-pos-of-short, above, within}
-use Rattle.shape.proofs.points_to_limit.Statement.{statement}
-use Rattle.shape.proofs.points_to_limit.Tie as tie
-use Rattle.shape.proofs.points_to_limit.Reads as reads
-use Rattle.shape.proofs.points_to_limit.Lts as lts
+use Rattle.shape.proofs.spans.points_to_limit.Statement.{statement}
+use Rattle.shape.proofs.spans.points_to_limit.Tie as tie
+use Rattle.shape.proofs.spans.points_to_limit.Reads as reads
+use Rattle.shape.proofs.spans.points_to_limit.Lts as lts
 
 abbrev Inv-loop : tie.InvT-loop
 Inv-loop count dims total₀ i₀ total i =

@@ -5,8 +5,8 @@ use borrow.Author.Tests.{lt-ltb, le-ltb, eq-eqb, ne-eqb}
 use lib.ListN.{take}
 use Rattle.shape.specs.Shape.{size}
 use Rattle.shape.specs.Checks.{firstRefusal}
-use Rattle.shape.proofs.Shape.check.Statement.{statement}
-use Rattle.shape.proofs.Shape.check.Tie as tie
+use Rattle.shape.proofs.axes.check.Statement.{statement}
+use Rattle.shape.proofs.axes.check.Tie as tie
 
 returns : tie.Need-returns
 unfolding firstRefusal
@@ -29,15 +29,15 @@ returns-4 : tie.Need-returns-4
 unfolding firstRefusal
 returns-4 c =
     let h = c .before .before .before in
-    let a = h .before .before .before .before .args in
-    rw (ne-eqb _ _ (h .before .before .if1 .left), le-ltb _ _ (h .before .if2 .left), sym (h .any-short .ensures) ∙ c .before .before .if3 .left, lt-ltb 16777216 (size (take (a .self .count) (a .self .dims))) (omega (arith, c .before .points-to-limit .ensures, c .if4 .taken)))
+    let a = h .before .before .before .args in
+    rw (ne-eqb _ _ (h .before .before .if1 .left), le-ltb _ _ (h .before .if2 .left), sym (h .any-short .ensures) ∙ c .before .before .if3 .left, lt-ltb 16777216 (size (take (a .count) (a .dims))) (omega (arith, c .before .points-to-limit .ensures, c .if4 .taken)))
 
 returns-5 : tie.Need-returns-5
 unfolding firstRefusal
 returns-5 c =
     let h = c .before .before .before in
-    let a = h .before .before .before .before .args in
-    rw (ne-eqb _ _ (h .before .before .if1 .left), le-ltb _ _ (h .before .if2 .left), sym (h .any-short .ensures) ∙ c .before .before .if3 .left, le-ltb 16777216 (size (take (a .self .count) (a .self .dims))) (omega (arith, c .before .points-to-limit .ensures, c .if4 .left)))
+    let a = h .before .before .before .args in
+    rw (ne-eqb _ _ (h .before .before .if1 .left), le-ltb _ _ (h .before .if2 .left), sym (h .any-short .ensures) ∙ c .before .before .if3 .left, le-ltb 16777216 (size (take (a .count) (a .dims))) (omega (arith, c .before .points-to-limit .ensures, c .if4 .left)))
 
 pub check-spec : {M : Type 1} → statement M
 check-spec = tie.close (tie.spec returns returns-2 (λ c κs. search needs) returns-3 points-to-limit-requires returns-4 returns-5)

@@ -1,0 +1,5 @@
+pub mod Rows
+pub mod Checks
+pub mod FitChecks
+pub mod Loops
+pub mod Total

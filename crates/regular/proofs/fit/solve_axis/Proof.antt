@@ -1,0 +1,39 @@
+use mathlib.Core.Path.{_≡_, refl}
+use native.Mathlib.Omega.{arith}
+use denote.Ref.{now}
+use lib.ListN.{length}
+use lib.Ieee.{binary64}
+use borrow.Author.Needs.{needs}
+use Rattle.shape.proofs.Accepted.{AxisIs, axis-is, axis-within}
+use Rattle.regular.proofs.Loops.{axis-coefs, axis-scratch}
+use Rattle.regular.proofs.fit.solve_axis.Statement.{statement}
+use Rattle.regular.proofs.fit.solve_axis.Tie as tie
+
+solve-lines-requires : tie.Need-solve-lines-requires
+solve-lines-requires c κs =
+    let m = c .before .before in
+    let l = m .before in
+    let s = l .before in
+    let t = s .before .before .before in
+    let a = t .args in
+    let four : length (a .t2) ≡ 4 = omega (arith, t .good) in
+    let x = axis-is (a .count) (a .t2) four (t .pre .0 .1) (a .axis) (t .pre .0 .0) refl (s .stride .ensures) (l .lines .ensures) (m .longest .ensures) in
+    axis-within (a .count) (a .t2) four (t .pre .0 .1) (a .axis) (t .pre .0 .0) x (t .pre .1 .0) (t .pre .1 .1)
+
+returns : tie.Need-returns
+returns c =
+    let w = c .before .before .before .before in
+    let m = w .before .before .before in
+    let l = m .before in
+    let s = l .before in
+    let t = s .before .before .before in
+    let a = t .args in
+    let x = axis-is (a .count) (a .t2) (omega (arith, t .good)) (t .pre .0 .1) (a .axis) (t .pre .0 .0) refl (s .stride .ensures) (l .lines .ensures) (m .longest .ensures) in (
+      axis-coefs binary64 (a .count) (a .t2) (a .axis) _ _ _ _ x (now (a .coeffs)) (now (a .scratch)) (w .solve-lines .ensures .0),
+      axis-scratch binary64 (a .count) (a .t2) (a .axis) _ _ _ _ x (now (a .coeffs)) (now (a .scratch)) (w .solve-lines .ensures .1),
+    )
+
+pub solve-axis-spec : {M : Type 1} → statement M
+solve-axis-spec =
+    tie.close
+    (tie.spec (λ c κs. search needs) (λ c κs. search needs) (λ c κs. search needs) (λ c. search needs) (λ c. search needs) solve-lines-requires (λ c. search needs) (λ c. search needs) returns)

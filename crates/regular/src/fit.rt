@@ -1,0 +1,135 @@
+// The whole fit: the lines of each axis solved in turn, axis 0 first.
+ghost use mathlib.Core.Path.{_≡_};
+ghost use Prim.Native.Nat.{_-_, _*_, _≤_, _<_};
+ghost use lib.ListN.{length, take};
+ghost use lib.Ieee.{binary64, nan};
+ghost use Rattle.shape.specs.Shape.{longest, size, firstCell};
+ghost use Rattle.shape.specs.Checks.{regularFitChecks, firstRefusal};
+ghost use Rattle.shape.specs.Fit.{solveLine, solveLines, solveAxis, axisScratch, fitAfter, scratchAfter};
+ghost use Rattle.shape.specs.Usable.{Usable, LinesWithin};
+ghost use Rattle.shape.specs.Refusal.{answerNumber};
+ghost use Rattle.regular.specs.Rows.{coefficient};
+ghost use Rattle.regular.specs.Fit.{solve, upper, lineLeaves, regularFit, regularScratch, Fitted};
+use crate::line::solve_checked;
+use multibspline::copy;
+use shape::Answer;
+use shape::Refusal;
+use shape::Shape;
+
+// The checks of a fit, from the lengths of its buffers.
+fn check_fit(shape: Shape, vals: usize, coeffs: usize, scratch: usize) -> Answer
+    ensures { λ r. ⌜ answerNumber r ≡ firstRefusal (regularFitChecks (shape .count) (shape .dims) vals coeffs scratch) ⌝ }
+{
+    if let Answer::Refused(refusal) = shape.check() {
+        return Answer::Refused(refusal);
+    }
+    if coeffs != shape.coeff_storage_len() {
+        return Answer::Refused(Refusal::DimensionMismatch);
+    }
+    if vals != shape.coeff_storage_len() {
+        return Answer::Refused(Refusal::DimensionMismatch);
+    }
+    if scratch < shape.construction_scratch_len() {
+        return Answer::Refused(Refusal::ScratchTooSmall);
+    }
+    Answer::Accepted
+}
+
+// Line l of an axis of n points that are s apart; m is the length of the longest axis.
+fn solve_nth(
+    n: usize,
+    s: usize,
+    lines: usize,
+    m: usize,
+    l: usize,
+    coeffs: &mut [f64],
+    scratch: &mut [f64],
+)
+    requires { ⌜ (l < lines) × LinesWithin n s lines m (length (now coeffs)) (length (now scratch)) ⌝ }
+    ensures { λ _. ⌜ now (coeffs .exit) ≡ solveLine nan (coefficient binary64 n) n s l (now (coeffs .entry)) ⌝ }
+    ensures { λ _. ⌜ now (scratch .exit) ≡ lineLeaves binary64 n s m l (now (coeffs .entry)) (now (scratch .entry)) ⌝ }
+{
+    let base = shape::first_cell_of(n, s, l);
+    solve_checked(base, s, n, m, coeffs, scratch);
+}
+
+// All the lines of an axis of n points that are s apart.
+fn solve_lines(
+    n: usize,
+    s: usize,
+    lines: usize,
+    m: usize,
+    coeffs: &mut [f64],
+    scratch: &mut [f64],
+)
+    requires { ⌜ (0 < lines) × LinesWithin n s lines m (length (now coeffs)) (length (now scratch)) ⌝ }
+    ensures { λ _. ⌜ now (coeffs .exit) ≡ solveLines nan (coefficient binary64 n) n s lines (now (coeffs .entry)) ⌝ }
+    ensures { λ _. ⌜ now (scratch .exit) ≡ lineLeaves binary64 n s m (lines - 1) (now (coeffs .entry)) (now (scratch .entry)) ⌝ }
+{
+    for l in 0..lines {
+        solve_nth(n, s, lines, m, l, coeffs, scratch);
+    }
+}
+
+// All the lines of one axis of a map.
+fn solve_axis(
+    count: usize,
+    dims: [usize; 4],
+    axis: usize,
+    coeffs: &mut [f64],
+    scratch: &mut [f64],
+)
+    requires { ⌜ (axis < count) × Usable count dims ⌝ }
+    requires { ⌜ (length (now coeffs) ≡ size (take count dims)) × (2 * longest (take count dims) ≤ length (now scratch)) ⌝ }
+    ensures { λ _. ⌜ now (coeffs .exit) ≡ solveAxis nan (solve binary64 (take count dims)) (take count dims) axis (now (coeffs .entry)) ⌝ }
+    ensures { λ _. ⌜ now (scratch .exit) ≡ axisScratch nan (upper binary64 (take count dims)) (solve binary64 (take count dims)) (take count dims) axis (now (coeffs .entry)) (now (scratch .entry)) ⌝ }
+{
+    let shape = Shape { count, dims };
+    let s = shape.stride(axis);
+    let lines = shape.lines(axis);
+    let m = shape.longest();
+    solve_lines(dims[axis], s, lines, m, coeffs, scratch);
+}
+
+// All the axes, from the samples in `coeffs`.
+fn solve_axes(count: usize, dims: [usize; 4], coeffs: &mut [f64], scratch: &mut [f64])
+    requires { ⌜ Usable count dims ⌝ }
+    requires { ⌜ (length (now coeffs) ≡ size (take count dims)) × (2 * longest (take count dims) ≤ length (now scratch)) ⌝ }
+    ensures { λ _. ⌜ now (coeffs .exit) ≡ regularFit binary64 (take count dims) (now (coeffs .entry)) ⌝ }
+    ensures { λ _. ⌜ now (scratch .exit) ≡ regularScratch binary64 (take count dims) (now (coeffs .entry)) (now (scratch .entry)) ⌝ }
+{
+    for axis in 0..count {
+        solve_axis(count, dims, axis, coeffs, scratch);
+    }
+}
+
+// The coefficients of the map that has the given values at its grid points. They are written to `coeffs`; `vals` stays as
+// it is. `coeffs` and `vals` have one cell a point, the last axis fastest, and `scratch` at least twice the longest axis,
+// whatever it holds. Answers the first of these refusals, with `coeffs` and `scratch` untouched: 1, the axis count is not
+// 1 to 4; 2, an axis has fewer than 4 points; 3, more than 16,777,216 points; 2, the length of `coeffs`; 2, the length of
+// `vals`; 4, the length of `scratch`.
+pub fn coefficients(shape: Shape, vals: &[f64], coeffs: &mut [f64], scratch: &mut [f64]) -> Answer
+    ensures { λ r. ⌜ Fitted binary64 (shape .count) (shape .dims) (now (vals .entry)) (now (coeffs .entry)) (now (scratch .entry)) (answerNumber r) (now (coeffs .exit)) (now (scratch .exit)) ⌝ }
+{
+    let count = shape.count;
+    let dims = shape.dims;
+    fit(count, dims, vals, coeffs, scratch)
+}
+
+fn fit(
+    count: usize,
+    dims: [usize; 4],
+    vals: &[f64],
+    coeffs: &mut [f64],
+    scratch: &mut [f64],
+) -> Answer
+    ensures { λ r. ⌜ Fitted binary64 count dims (now (vals .entry)) (now (coeffs .entry)) (now (scratch .entry)) (answerNumber r) (now (coeffs .exit)) (now (scratch .exit)) ⌝ }
+{
+    let shape = Shape { count, dims };
+    if let Answer::Refused(refusal) = check_fit(shape, vals.len(), coeffs.len(), scratch.len()) {
+        return Answer::Refused(refusal);
+    }
+    copy(vals, coeffs);
+    solve_axes(count, dims, coeffs, scratch);
+    Answer::Accepted
+}
