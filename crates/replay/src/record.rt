@@ -1,0 +1,334 @@
+// One record of the list: the call that it asks for, and what it expects.
+ghost use mathlib.Core.Path.{_≡_};
+ghost use Prim.Native.Nat.{_<_, _≤_};
+ghost use lib.ListN.{length};
+ghost use Rattle.float_text.specs.Bits.{sameBits};
+ghost use Rattle.replay.specs.Cells.{isNear, isUntouched};
+ghost use Rattle.replay.specs.Words.{MatchWords, MatchFit};
+ghost use Rattle.shape.specs.Refusal.{refusalNumber, answerNumber};
+use crate::cells;
+use crate::words;
+use shape::Answer;
+use shape::Refusal;
+use shape::Shape;
+
+// What came of a record. A bool says whether all was as the record expects.
+pub enum Outcome {
+    // the list has no more records
+    End,
+    Unreadable,
+    Fit(bool),
+    Refused(bool),
+    Published(bool),
+}
+
+enum Compared {
+    Same,
+    Differs,
+    Unreadable,
+}
+
+// The number of a refusal.
+fn refusal_number(r: Refusal) -> u64
+    ensures { λ n. ⌜ n ≡ refusalNumber r ⌝ }
+{
+    match r {
+        Refusal::AxisCount => 1,
+        Refusal::DimensionMismatch => 2,
+        Refusal::TooManyPoints => 3,
+        Refusal::ScratchTooSmall => 4,
+        Refusal::NotIncreasing => 5,
+        Refusal::Unrepresentable => 6,
+        Refusal::NoSuchLine => 7,
+        Refusal::AlreadySolved => 8,
+        Refusal::NotDue => 9,
+    }
+}
+
+// The number of an answer: 0 where the call was accepted.
+fn answer_number(a: Answer) -> u64
+    ensures { λ n. ⌜ n ≡ answerNumber a ⌝ }
+{
+    match a {
+        Answer::Accepted => 0,
+        Answer::Refused(r) => refusal_number(r),
+    }
+}
+
+fn size(bits: u64) -> usize
+    ensures { λ n. ⌜ n ≡ bits ⌝ }
+{
+    bits as usize
+}
+
+// The call under test. `numbers` are those of the record, of which the first five are the shape.
+fn fit(numbers: &[u64], samples: &[f64], coeffs: &mut [f64], scratch: &mut [f64]) -> Answer
+    requires { ⌜ length (now numbers) ≡ 10 ⌝ }
+{
+    let dims = [
+        size(numbers[1]),
+        size(numbers[2]),
+        size(numbers[3]),
+        size(numbers[4]),
+    ];
+    let shape = Shape {
+        count: size(numbers[0]),
+        dims: dims,
+    };
+    regular::coefficients(shape, samples, coeffs, scratch)
+}
+
+// Cells against the words from `first` on, which are read into `read`, a buffer of that many cells.
+fn compare_read(text: &[u8], first: usize, cells: &[f64], read: &mut [f64]) -> Compared
+    ensures { λ r. ⌜ (r ≡ Compared.Same → MatchWords sameBits (now (text .entry)) first (now (cells .entry))) ⌝ }
+{
+    if !words::read_floats(text, first, read) {
+        return Compared::Unreadable;
+    }
+    if cells::same_cells(cells, read) {
+        return Compared::Same;
+    }
+    Compared::Differs
+}
+
+// The same, with a buffer that may be longer.
+fn compare(text: &[u8], first: usize, cells: &[f64], spare: &mut [f64]) -> Compared
+    ensures { λ r. ⌜ (r ≡ Compared.Same → MatchWords sameBits (now (text .entry)) first (now (cells .entry))) ⌝ }
+{
+    let n = cells.len();
+    if n > spare.len() {
+        return Compared::Unreadable;
+    }
+    compare_read(text, first, cells, &mut spare[..n])
+}
+
+// The same two within a tolerance.
+fn compare_near_read(
+    tolerance: f64,
+    text: &[u8],
+    first: usize,
+    cells: &[f64],
+    read: &mut [f64],
+) -> Compared
+    ensures { λ r. ⌜ (r ≡ Compared.Same → MatchWords (isNear tolerance) (now (text .entry)) first (now (cells .entry))) ⌝ }
+{
+    if !words::read_floats(text, first, read) {
+        return Compared::Unreadable;
+    }
+    if cells::near_cells(tolerance, cells, read) {
+        return Compared::Same;
+    }
+    Compared::Differs
+}
+
+fn compare_near(
+    tolerance: f64,
+    text: &[u8],
+    first: usize,
+    cells: &[f64],
+    spare: &mut [f64],
+) -> Compared
+    ensures { λ r. ⌜ (r ≡ Compared.Same → MatchWords (isNear tolerance) (now (text .entry)) first (now (cells .entry))) ⌝ }
+{
+    let n = cells.len();
+    if n > spare.len() {
+        return Compared::Unreadable;
+    }
+    compare_near_read(tolerance, text, first, cells, &mut spare[..n])
+}
+
+// The buffers after an accepted call, to the bit: coefficients from word `first` on, scratch from word `second` on.
+fn compare_both(
+    text: &[u8],
+    first: usize,
+    coeffs: &[f64],
+    second: usize,
+    scratch: &[f64],
+    spare: &mut [f64],
+) -> Compared
+    ensures { λ r. ⌜ (r ≡ Compared.Same → MatchWords sameBits (now (text .entry)) first (now (coeffs .entry))) ⌝ }
+    ensures { λ r. ⌜ (r ≡ Compared.Same → MatchWords sameBits (now (text .entry)) second (now (scratch .entry))) ⌝ }
+{
+    let coefs = compare(text, first, coeffs, spare);
+    match coefs {
+        Compared::Same => compare(text, second, scratch, spare),
+        Compared::Differs => Compared::Differs,
+        Compared::Unreadable => Compared::Unreadable,
+    }
+}
+
+// A published figure, whose scratch is not compared, or a fit.
+fn compare_fit(
+    kind: u64,
+    tolerance: u64,
+    text: &[u8],
+    samples: usize,
+    coeffs: &[f64],
+    scratch: &[f64],
+    spare: &mut [f64],
+) -> Compared
+    requires { ⌜ (samples ≤ 2048) × (length (now coeffs) ≤ 2048) ⌝ }
+    ensures { λ r. ⌜ (r ≡ Compared.Same → MatchFit kind tolerance (now (text .entry)) samples (now (coeffs .entry)) (now (scratch .entry))) ⌝ }
+{
+    let first = 10 + samples;
+    let second = first + coeffs.len();
+    if kind == 3 {
+        return compare_near(float_text::float_of(tolerance), text, first, coeffs, spare);
+    }
+    compare_both(text, first, coeffs, second, scratch, spare)
+}
+
+// Whether a refused call left both buffers as they were.
+fn is_untouched(coeffs: &[f64], scratch: &[f64]) -> bool
+    ensures { λ r. ⌜ r ≡ isUntouched (now (coeffs .entry)) (now (scratch .entry)) ⌝ }
+{
+    if cells::is_filled(0.5, 1.0, coeffs) {
+        return cells::is_filled(-0.25, -1.0, scratch);
+    }
+    false
+}
+
+// A call that is to be refused: whether it was, with the right number, and left both buffers as they were.
+fn judge_refusal(is_number_right: bool, coeffs: &[f64], scratch: &[f64]) -> Outcome {
+    if !is_number_right {
+        return Outcome::Refused(false);
+    }
+    Outcome::Refused(is_untouched(coeffs, scratch))
+}
+
+fn judge(kind: u64, is_same: bool) -> Outcome {
+    if kind == 3 {
+        return Outcome::Published(is_same);
+    }
+    Outcome::Fit(is_same)
+}
+
+fn judge_fit(kind: u64, compared: Compared) -> Outcome {
+    match compared {
+        Compared::Same => judge(kind, true),
+        Compared::Differs => judge(kind, false),
+        Compared::Unreadable => Outcome::Unreadable,
+    }
+}
+
+// Runs the call on buffers of the lengths that the record asks for, and compares.
+fn replay_call(
+    kind: u64,
+    text: &[u8],
+    numbers: &[u64],
+    samples: &mut [f64],
+    coeffs: &mut [f64],
+    scratch: &mut [f64],
+    spare: &mut [f64],
+) -> Outcome
+    requires { ⌜ (length (now numbers) ≡ 10) × (length (now samples) ≤ 2048) × (length (now coeffs) ≤ 2048) ⌝ }
+{
+    if !words::read_floats(text, 10, samples) {
+        return Outcome::Unreadable;
+    }
+    cells::fill(0.5, 1.0, coeffs);
+    cells::fill(-0.25, -1.0, scratch);
+    let answer = answer_number(fit(numbers, samples, coeffs, scratch));
+    let wanted = numbers[8];
+    if wanted != 0 {
+        return judge_refusal(answer == wanted, coeffs, scratch);
+    }
+    if answer != 0 {
+        return judge(kind, false);
+    }
+    let compared = compare_fit(
+        kind,
+        numbers[9],
+        text,
+        samples.len(),
+        coeffs,
+        scratch,
+        spare,
+    );
+    judge_fit(kind, compared)
+}
+
+// Whether a record has as many words as its numbers say.
+fn is_whole(words: usize, samples: usize, coeffs: usize, scratch: usize, answer: u64) -> bool
+    requires { ⌜ (samples ≤ 2048) × (coeffs ≤ 2048) × (scratch ≤ 2048) ⌝ }
+{
+    if answer == 0 {
+        return words == 10 + samples + coeffs + scratch;
+    }
+    words == 10 + samples
+}
+
+// Whether a record of this kind may have this answer.
+fn is_kind(kind: u64, answer: u64) -> bool {
+    if kind == 1 {
+        return true;
+    }
+    if kind == 2 {
+        return answer != 0;
+    }
+    if kind == 3 {
+        return answer == 0;
+    }
+    false
+}
+
+// Replays a record whose numbers have been read.
+fn replay_numbers(
+    kind: u64,
+    text: &[u8],
+    numbers: &[u64],
+    samples: &mut [f64],
+    coeffs: &mut [f64],
+    scratch: &mut [f64],
+    spare: &mut [f64],
+) -> Outcome
+    requires { ⌜ length (now numbers) ≡ 10 ⌝ }
+    requires { ⌜ (length (now samples) ≤ 2048) × (length (now coeffs) ≤ 2048) × (length (now scratch) ≤ 2048) ⌝ }
+{
+    let s = size(numbers[5]);
+    let c = size(numbers[6]);
+    let w = size(numbers[7]);
+    if s > samples.len() {
+        return Outcome::Unreadable;
+    }
+    if c > coeffs.len() {
+        return Outcome::Unreadable;
+    }
+    if w > scratch.len() {
+        return Outcome::Unreadable;
+    }
+    if !is_whole(text.len() / 17, s, c, w, numbers[8]) {
+        return Outcome::Unreadable;
+    }
+    replay_call(
+        kind,
+        text,
+        numbers,
+        &mut samples[..s],
+        &mut coeffs[..c],
+        &mut scratch[..w],
+        spare,
+    )
+}
+
+// Replays a record from its third word on: its ten numbers, then its floats.
+pub fn replay(
+    kind: u64,
+    text: &[u8],
+    numbers: &mut [u64],
+    samples: &mut [f64],
+    coeffs: &mut [f64],
+    scratch: &mut [f64],
+    spare: &mut [f64],
+) -> Outcome
+    requires { ⌜ length (now numbers) ≡ 10 ⌝ }
+    requires { ⌜ (length (now samples) ≤ 2048) × (length (now coeffs) ≤ 2048) × (length (now scratch) ≤ 2048) ⌝ }
+{
+    if !words::read_numbers(text, numbers) {
+        return Outcome::Unreadable;
+    }
+    if !is_kind(kind, numbers[8]) {
+        return Outcome::Unreadable;
+    }
+    replay_numbers(kind, text, numbers, samples, coeffs, scratch, spare)
+}

@@ -1,0 +1,65 @@
+// One call of `coefficients`, and what the Rust answers to it.
+use interpn::multibspline::regular::coefficients;
+
+#[derive(Clone)]
+pub struct Call {
+    pub count: u64,
+    // lengths past the axis count are not looked at
+    pub dims: [u64; 4],
+    pub samples: Vec<f64>,
+    // lengths of the two buffers
+    pub coefs: usize,
+    pub scratch: usize,
+}
+
+// The answer's number, 0 where the call is accepted, and the two buffers after the call.
+pub struct Answer {
+    pub number: u64,
+    pub coefs: Vec<f64>,
+    pub scratch: Vec<f64>,
+}
+
+// What the buffers hold before the call.
+pub fn coefs_before(n: usize) -> Vec<f64> {
+    (0..n).map(|i| i as f64 + 0.5).collect()
+}
+
+pub fn scratch_before(n: usize) -> Vec<f64> {
+    (0..n).map(|i| -(i as f64) - 0.25).collect()
+}
+
+impl Call {
+    // The Rust's answer; the axis count is 1 to 4. A refusal must leave the buffers as they were.
+    pub fn answer(&self) -> Answer {
+        let mut coefs = coefs_before(self.coefs);
+        let mut scratch = scratch_before(self.scratch);
+        let result = match self.count {
+            1 => self.run::<1>(&mut coefs, &mut scratch),
+            2 => self.run::<2>(&mut coefs, &mut scratch),
+            3 => self.run::<3>(&mut coefs, &mut scratch),
+            4 => self.run::<4>(&mut coefs, &mut scratch),
+            _ => panic!("the Rust is not run with {} axes", self.count),
+        };
+        let number = number(result);
+        if number != 0 {
+            assert_eq!(coefs, coefs_before(self.coefs), "a refusal changed the coefficients");
+            assert_eq!(scratch, scratch_before(self.scratch), "a refusal changed scratch");
+        }
+        Answer { number, coefs, scratch }
+    }
+
+    fn run<const N: usize>(&self, coefs: &mut [f64], scratch: &mut [f64]) -> Result<(), &'static str> {
+        let dims: [usize; N] = std::array::from_fn(|axis| self.dims[axis] as usize);
+        coefficients(dims, &self.samples, coefs, scratch)
+    }
+}
+
+// The number of the Rust's answer.
+fn number(result: Result<(), &'static str>) -> u64 {
+    match result {
+        Ok(()) => 0,
+        Err("Dimension mismatch") => 2,
+        Err("Scratch buffer is too small") => 4,
+        Err(text) => panic!("no number for: {text}"),
+    }
+}

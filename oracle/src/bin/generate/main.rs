@@ -1,0 +1,21 @@
+// Writes the fixed list of calls and answers to standard output, and its counts to standard error. Nothing here depends on
+// the time, the environment or the machine. ../../../README.md describes the list.
+mod call;
+mod fits;
+mod list;
+mod published;
+mod random;
+mod refusals;
+mod samples;
+
+use list::List;
+use std::io::Write;
+
+fn main() {
+    let mut list = List::new();
+    fits::add(&mut list);
+    refusals::add(&mut list);
+    published::add(&mut list);
+    std::io::stdout().write_all(list.text()).expect("standard output is closed");
+    list.tell_counts();
+}

@@ -1,0 +1,3 @@
+// The Rust's root, as build.rs writes it.
+#![allow(dead_code)]
+include!(concat!(env!("OUT_DIR"), "/root.rs"));
