@@ -54,14 +54,7 @@ fn solve_nth(
 }
 
 // All the lines of an axis of n points that are s apart.
-fn solve_lines(
-    n: usize,
-    s: usize,
-    lines: usize,
-    m: usize,
-    coeffs: &mut [f64],
-    scratch: &mut [f64],
-)
+fn solve_lines(n: usize, s: usize, lines: usize, m: usize, coeffs: &mut [f64], scratch: &mut [f64])
     requires { ⌜ (0 < lines) × LinesWithin n s lines m (length (now coeffs)) (length (now scratch)) ⌝ }
     ensures { λ _. ⌜ now (coeffs .exit) ≡ solveLines nan (coefficient binary64 n) n s lines (now (coeffs .entry)) ⌝ }
     ensures { λ _. ⌜ now (scratch .exit) ≡ lineLeaves binary64 n s m (lines - 1) (now (coeffs .entry)) (now (scratch .entry)) ⌝ }
@@ -72,13 +65,7 @@ fn solve_lines(
 }
 
 // All the lines of one axis of a map.
-fn solve_axis(
-    count: usize,
-    dims: [usize; 4],
-    axis: usize,
-    coeffs: &mut [f64],
-    scratch: &mut [f64],
-)
+fn solve_axis(count: usize, dims: [usize; 4], axis: usize, coeffs: &mut [f64], scratch: &mut [f64])
     requires { ⌜ (axis < count) × Usable count dims ⌝ }
     requires { ⌜ (length (now coeffs) ≡ size (take count dims)) × (2 * longest (take count dims) ≤ length (now scratch)) ⌝ }
     ensures { λ _. ⌜ now (coeffs .exit) ≡ solveAxis nan (solve binary64 (take count dims)) (take count dims) axis (now (coeffs .entry)) ⌝ }

@@ -5,11 +5,9 @@ ghost use lib.ListN.{length};
 ghost use Rattle.float_text.specs.Bits.{sameBits};
 ghost use Rattle.replay.specs.Cells.{isNear, isUntouched};
 ghost use Rattle.replay.specs.Words.{MatchWords, MatchFit};
-ghost use Rattle.shape.specs.Refusal.{refusalNumber, answerNumber};
 use crate::cells;
 use crate::words;
 use shape::Answer;
-use shape::Refusal;
 use shape::Shape;
 
 // What came of a record. A bool says whether all was as the record expects.
@@ -26,33 +24,6 @@ enum Compared {
     Same,
     Differs,
     Unreadable,
-}
-
-// The number of a refusal.
-fn refusal_number(r: Refusal) -> u64
-    ensures { λ n. ⌜ n ≡ refusalNumber r ⌝ }
-{
-    match r {
-        Refusal::AxisCount => 1,
-        Refusal::DimensionMismatch => 2,
-        Refusal::TooManyPoints => 3,
-        Refusal::ScratchTooSmall => 4,
-        Refusal::NotIncreasing => 5,
-        Refusal::Unrepresentable => 6,
-        Refusal::NoSuchLine => 7,
-        Refusal::AlreadySolved => 8,
-        Refusal::NotDue => 9,
-    }
-}
-
-// The number of an answer: 0 where the call was accepted.
-fn answer_number(a: Answer) -> u64
-    ensures { λ n. ⌜ n ≡ answerNumber a ⌝ }
-{
-    match a {
-        Answer::Accepted => 0,
-        Answer::Refused(r) => refusal_number(r),
-    }
 }
 
 fn size(bits: u64) -> usize
@@ -228,7 +199,7 @@ fn replay_call(
     }
     cells::fill(0.5, 1.0, coeffs);
     cells::fill(-0.25, -1.0, scratch);
-    let answer = answer_number(fit(numbers, samples, coeffs, scratch));
+    let answer = fit(numbers, samples, coeffs, scratch).number();
     let wanted = numbers[8];
     if wanted != 0 {
         return judge_refusal(answer == wanted, coeffs, scratch);

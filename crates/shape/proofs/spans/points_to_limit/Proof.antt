@@ -39,7 +39,7 @@ seen c =
     let s = c .before .before in
     let h : s .args .count ≤ length (s .args .t1) = omega (arith, s .good .0 .1 .0 .1) in
     let p = or-false (ltb (getD (s .args .t1) (c .before .loop .i) 0) 4) (anyShort (drop (c .before .loop .i + 1) (take (s .args .count) (s .args .t1))))
-          (sym (short-cons (s .args .t1) (s .args .count) (c .before .loop .i) h (omega arith)) ∙ c .before .loop .inv .3) in
+    (sym (short-cons (s .args .t1) (s .args .count) (c .before .loop .i) h (omega arith)) ∙ c .before .loop .inv .3) in
     (ltb-false _ _ (p .0), p .1, product-cons (s .args .t1) (s .args .count) (c .before .loop .i) h (omega arith))
 
 returns : tie.Need-returns Inv-loop μ-loop
@@ -69,9 +69,12 @@ loop-less c = omega arith
 loop-again : tie.Need-loop-again Inv-loop μ-loop
 loop-again c =
     let w = c .before .before in
-    let k = seen w in
-    (omega arith, within _ _ 16777216 (omega (arith, k .0)) (c .if2 .left),
-      w .before .loop .inv .2 ∙ ap (λ (z : ℕ). w .before .loop .total * z) (k .2) ∙ sym (mul-assoc _ _ _), k .1)
+    let k = seen w in (
+      omega arith,
+      within _ _ 16777216 (omega (arith, k .0)) (c .if2 .left),
+      w .before .loop .inv .2 ∙ ap (λ (z : ℕ). w .before .loop .total * z) (k .2) ∙ sym (mul-assoc _ _ _),
+      k .1,
+    )
 
 returns-3 : tie.Need-returns-3 Inv-loop μ-loop
 returns-3 c =

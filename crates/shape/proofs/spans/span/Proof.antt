@@ -19,8 +19,8 @@ abbrev μ : tie.MeasureT-loop
 -- the length at `at` is a factor of what is left
 more : (c : tie.In-loop Inv μ)
     → let s = c .before .before in
-      let l = take (s .args .j) (s .args .t1) in
-      c .before .loop .total * getD (s .args .t1) (c .before .loop .at) 0 * product (drop (c .before .loop .at + 1) l) ≡ product (drop (s .args .i) l)
+    let l = take (s .args .j) (s .args .t1) in
+    c .before .loop .total * getD (s .args .t1) (c .before .loop .at) 0 * product (drop (c .before .loop .at + 1) l) ≡ product (drop (s .args .i) l)
 more c =
     let s = c .before .before in
     let step = product-cons (s .args .t1) (s .args .j) (c .before .loop .at) (omega (arith, s .good .0)) (omega arith) in
