@@ -1,7 +1,7 @@
 -- The words of the list. Assumes nothing.
 use mathlib.Core.Path.{_≡_}
 use mathlib.Core.Bool.{Bool, true, false, cond, _&&_, _||_}
-use mathlib.Core.List.{List}
+use mathlib.Core.List.{List, [], _∷_}
 use Prim.Native.Nat.{ℕ, _+_, _*_, _/_, _<_}
 use lib.Dec.{eqb, ltb}
 use lib.ListN.{length, getD, take, drop, set}
@@ -35,6 +35,10 @@ number bits = bits
 
 abbrev pub float : ℕ → Float
 float bits = ofBits binary64 bits
+
+-- the lengths of the axes among a record's numbers
+abbrev pub lens : List ℕ → List ℕ
+lens numbers = getD numbers 1 0 ∷ getD numbers 2 0 ∷ getD numbers 3 0 ∷ getD numbers 4 0 ∷ []
 
 -- element i is what is made of word i
 pub record IsWord {A : Type 0} (make : ℕ → A) (o : A) (text : List ℕ) (xs : List A) (i : ℕ) : Type 0 where

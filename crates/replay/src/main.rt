@@ -13,7 +13,7 @@ use record::Outcome;
 use tally::Tally;
 use words::Head;
 
-// No list has more records than this.
+// A list with more records than this is not read to its end, and so counts as unreadable.
 const MOST_RECORDS: usize = 1000000;
 
 // Reads `text` full. Whether there was enough to read.

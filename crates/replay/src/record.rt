@@ -1,10 +1,13 @@
 // One record of the list: the call that it asks for, and what it expects.
 ghost use mathlib.Core.Path.{_≡_};
-ghost use Prim.Native.Nat.{_<_, _≤_};
-ghost use lib.ListN.{length};
+ghost use Prim.Native.Nat.{_≤_};
+ghost use lib.ListN.{length, getD};
+ghost use lib.Ieee.{binary64};
 ghost use Rattle.float_text.specs.Bits.{sameBits};
 ghost use Rattle.replay.specs.Cells.{isNear, isUntouched};
-ghost use Rattle.replay.specs.Words.{MatchWords, MatchFit};
+ghost use Rattle.regular.specs.Fit.{Fitted};
+ghost use Rattle.replay.specs.Words.{lens, MatchWords, MatchFit};
+ghost use Rattle.shape.specs.Refusal.{answerNumber};
 use crate::cells;
 use crate::words;
 use shape::Answer;
@@ -35,6 +38,7 @@ fn size(bits: u64) -> usize
 // The call under test. `numbers` are those of the record, of which the first five are the shape.
 fn fit(numbers: &[u64], samples: &[f64], coeffs: &mut [f64], scratch: &mut [f64]) -> Answer
     requires { ⌜ length (now numbers) ≡ 10 ⌝ }
+    ensures { λ r. ⌜ Fitted binary64 (getD (now (numbers .entry)) 0 0) (lens (now (numbers .entry))) (now (samples .entry)) (now (coeffs .entry)) (now (scratch .entry)) (answerNumber r) (now (coeffs .exit)) (now (scratch .exit)) ⌝ }
 {
     let dims = [
         size(numbers[1]),

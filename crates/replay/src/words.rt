@@ -1,7 +1,6 @@
 // The words of the list: 16 hexadecimal digits each, and a space or a newline after them.
 ghost use mathlib.Core.Path.{_≡_};
-ghost use mathlib.Core.Bool.{true};
-ghost use Prim.Native.Nat.{_<_, _≤_, _*_};
+ghost use Prim.Native.Nat.{_<_, _*_};
 ghost use lib.ListN.{length, drop};
 ghost use lib.Ieee.{nan};
 ghost use Rattle.replay.specs.Words.{isGap, wordAt, isRead, placed, number, float, AreWords};
