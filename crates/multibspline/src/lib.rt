@@ -1,5 +1,8 @@
 // What both grids share: the Thomas algorithm on one line of a map. These are the inner functions of the library; a caller
 // uses `regular`. In scratch the upper numbers stand from 0 on and the right sides from m on, the length of the longest axis.
+mod saturation;
+
+pub use saturation::Saturation;
 ghost use mathlib.Core.Path.{_≡_};
 ghost use Prim.Native.Nat.{ℕ, _+_, _-_, _*_, _≤_, _<_};
 ghost use lib.ListN.{length, set};

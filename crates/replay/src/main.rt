@@ -1,17 +1,15 @@
 // Replays the list of fits in fits.txt: runs each call, compares what it answers and leaves with what the list says, and
 // prints how many there were and how many differ. The list comes from the folder oracle/, whose README describes it.
-mod cells;
 mod record;
 mod tally;
-mod words;
 
 ghost use mathlib.Core.Path.{_≡_};
 ghost use Prim.Native.Nat.{_≤_};
 ghost use lib.ListN.{length};
 use libc::STDOUT_FILENO;
+use oracle_list::Head;
 use record::Outcome;
 use tally::Tally;
-use words::Head;
 
 // A list with more records than this is not read to its end, and so counts as unreadable.
 const MOST_RECORDS: usize = 1000000;
@@ -96,7 +94,7 @@ fn replay_next(
     if got < head.len() {
         return Outcome::Unreadable;
     }
-    let first = words::first_two(head);
+    let first = oracle_list::first_two(head);
     match first {
         Head::Is { kind, count } => {
             replay_rest(

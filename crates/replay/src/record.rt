@@ -4,12 +4,11 @@ ghost use Prim.Native.Nat.{_≤_};
 ghost use lib.ListN.{length, getD};
 ghost use lib.Ieee.{binary64};
 ghost use Rattle.float_text.specs.Bits.{sameBits};
-ghost use Rattle.replay.specs.Cells.{isNear, isUntouched};
+ghost use Rattle.oracle_list.specs.Words.{MatchWords};
 ghost use Rattle.regular.specs.Fit.{Fitted};
-ghost use Rattle.replay.specs.Words.{lens, MatchWords, MatchFit};
+ghost use Rattle.replay.specs.Expected.{lens, MatchFit, isUntouched};
 ghost use Rattle.shape.specs.Refusal.{answerNumber};
-use crate::cells;
-use crate::words;
+use oracle_list::Compared;
 use shape::Answer;
 use shape::Shape;
 
@@ -21,12 +20,6 @@ pub enum Outcome {
     Fit(bool),
     Refused(bool),
     Published(bool),
-}
-
-enum Compared {
-    Same,
-    Differs,
-    Unreadable,
 }
 
 fn size(bits: u64) -> usize
@@ -53,65 +46,6 @@ fn fit(numbers: &[u64], samples: &[f64], coeffs: &mut [f64], scratch: &mut [f64]
     regular::coefficients(shape, samples, coeffs, scratch)
 }
 
-// Cells against the words from `first` on, which are read into `read`, a buffer of that many cells.
-fn compare_read(text: &[u8], first: usize, cells: &[f64], read: &mut [f64]) -> Compared
-    ensures { λ r. ⌜ (r ≡ Compared.Same → MatchWords sameBits (now (text .entry)) first (now (cells .entry))) ⌝ }
-{
-    if !words::read_floats(text, first, read) {
-        return Compared::Unreadable;
-    }
-    if cells::same_cells(cells, read) {
-        return Compared::Same;
-    }
-    Compared::Differs
-}
-
-// The same, with a buffer that may be longer.
-fn compare(text: &[u8], first: usize, cells: &[f64], spare: &mut [f64]) -> Compared
-    ensures { λ r. ⌜ (r ≡ Compared.Same → MatchWords sameBits (now (text .entry)) first (now (cells .entry))) ⌝ }
-{
-    let n = cells.len();
-    if n > spare.len() {
-        return Compared::Unreadable;
-    }
-    compare_read(text, first, cells, &mut spare[..n])
-}
-
-// The same two within a tolerance.
-fn compare_near_read(
-    tolerance: f64,
-    text: &[u8],
-    first: usize,
-    cells: &[f64],
-    read: &mut [f64],
-) -> Compared
-    ensures { λ r. ⌜ (r ≡ Compared.Same → MatchWords (isNear tolerance) (now (text .entry)) first (now (cells .entry))) ⌝ }
-{
-    if !words::read_floats(text, first, read) {
-        return Compared::Unreadable;
-    }
-    if cells::near_cells(tolerance, cells, read) {
-        return Compared::Same;
-    }
-    Compared::Differs
-}
-
-fn compare_near(
-    tolerance: f64,
-    text: &[u8],
-    first: usize,
-    cells: &[f64],
-    spare: &mut [f64],
-) -> Compared
-    ensures { λ r. ⌜ (r ≡ Compared.Same → MatchWords (isNear tolerance) (now (text .entry)) first (now (cells .entry))) ⌝ }
-{
-    let n = cells.len();
-    if n > spare.len() {
-        return Compared::Unreadable;
-    }
-    compare_near_read(tolerance, text, first, cells, &mut spare[..n])
-}
-
 // The buffers after an accepted call, to the bit: coefficients from word `first` on, scratch from word `second` on.
 fn compare_both(
     text: &[u8],
@@ -124,9 +58,9 @@ fn compare_both(
     ensures { λ r. ⌜ (r ≡ Compared.Same → MatchWords sameBits (now (text .entry)) first (now (coeffs .entry))) ⌝ }
     ensures { λ r. ⌜ (r ≡ Compared.Same → MatchWords sameBits (now (text .entry)) second (now (scratch .entry))) ⌝ }
 {
-    let coefs = compare(text, first, coeffs, spare);
+    let coefs = oracle_list::compare(text, first, coeffs, spare);
     match coefs {
-        Compared::Same => compare(text, second, scratch, spare),
+        Compared::Same => oracle_list::compare(text, second, scratch, spare),
         Compared::Differs => Compared::Differs,
         Compared::Unreadable => Compared::Unreadable,
     }
@@ -148,7 +82,13 @@ fn compare_fit(
     let first = 10 + samples;
     let second = first + coeffs.len();
     if kind == 3 {
-        return compare_near(float_text::float_of(tolerance), text, first, coeffs, spare);
+        return oracle_list::compare_near(
+            float_text::float_of(tolerance),
+            text,
+            first,
+            coeffs,
+            spare,
+        );
     }
     compare_both(text, first, coeffs, second, scratch, spare)
 }
@@ -157,8 +97,8 @@ fn compare_fit(
 fn is_untouched(coeffs: &[f64], scratch: &[f64]) -> bool
     ensures { λ r. ⌜ r ≡ isUntouched (now (coeffs .entry)) (now (scratch .entry)) ⌝ }
 {
-    if cells::is_filled(0.5, 1.0, coeffs) {
-        return cells::is_filled(-0.25, -1.0, scratch);
+    if oracle_list::is_filled(0.5, 1.0, coeffs) {
+        return oracle_list::is_filled(-0.25, -1.0, scratch);
     }
     false
 }
@@ -198,11 +138,11 @@ fn replay_call(
 ) -> Outcome
     requires { ⌜ (length (now numbers) ≡ 10) × (length (now samples) ≤ 2048) × (length (now coeffs) ≤ 2048) ⌝ }
 {
-    if !words::read_floats(text, 10, samples) {
+    if !oracle_list::read_floats(text, 10, samples) {
         return Outcome::Unreadable;
     }
-    cells::fill(0.5, 1.0, coeffs);
-    cells::fill(-0.25, -1.0, scratch);
+    oracle_list::fill(0.5, 1.0, coeffs);
+    oracle_list::fill(-0.25, -1.0, scratch);
     let answer = fit(numbers, samples, coeffs, scratch).number();
     let wanted = numbers[8];
     if wanted != 0 {
@@ -299,7 +239,7 @@ pub fn replay(
     requires { ⌜ length (now numbers) ≡ 10 ⌝ }
     requires { ⌜ (length (now samples) ≤ 2048) × (length (now coeffs) ≤ 2048) × (length (now scratch) ≤ 2048) ⌝ }
 {
-    if !words::read_numbers(text, numbers) {
+    if !oracle_list::read_numbers(text, numbers) {
         return Outcome::Unreadable;
     }
     if !is_kind(kind, numbers[8]) {

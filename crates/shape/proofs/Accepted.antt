@@ -5,7 +5,7 @@ use mathlib.Core.Logic.{_↔_, _⊎_, inl, inr}
 use mathlib.Core.Bool.{Bool, true, false, cond, not, _&&_, _||_}
 use mathlib.Core.List.{List, [], _∷_, _++_}
 use Prim.Native.Nat.{ℕ, zero, suc, _+_, _*_, _-_, _≤_, _<_}
-use native.Mathlib.Nat.{mul-pos, le-mul-of-pos-right, mul-le-mul-right, not-suc-le-zero, le-of-suc-le-suc}
+use native.Mathlib.Nat.{mul-pos, le-mul-of-pos-right, mul-le-mul-right, mul-le-mul-left, not-suc-le-zero, le-of-suc-le-suc}
 use native.Mathlib.Numerals.{add-one}
 use native.Mathlib.Omega.{arith}
 use lib.Dec.{eqb, ltb}
@@ -50,6 +50,27 @@ refused-append (x ∷ xs) ys n e = go (x .fails) (λ h. refused-append xs ys n h
 
 pub refusal-append : (r : Refusal) (xs ys : List Check) → refusalNumber r ≡ firstRefusal xs → refusalNumber r ≡ firstRefusal (xs ++ ys)
 refusal-append r xs ys e = refusal-suc r ∙ sym (refused-append xs ys (refusalNumber r - 1) (sym e ∙ refusal-suc r))
+
+-- checks that pass leave the answer to what follows them, where their numbers are above 0
+abbrev pub Positive : List Check → Type 0
+Positive [] = Unit {0}
+Positive (c ∷ cs) = (0 < c .number) × Positive cs
+
+pub passed-append : (xs ys : List Check) → Positive xs → firstRefusal xs ≡ 0 → firstRefusal (xs ++ ys) ≡ firstRefusal ys
+unfolding firstRefusal
+passed-append [] ys p e = refl
+passed-append (x ∷ xs) ys p e = go (x .fails) (λ h. passed-append xs ys (p .1) h) e
+  where
+    go : (b : Bool) → (firstRefusal xs ≡ 0 → firstRefusal (xs ++ ys) ≡ firstRefusal ys) → cond b (x .number) (firstRefusal xs) ≡ 0 → cond b (x .number) (firstRefusal (xs ++ ys)) ≡ firstRefusal ys
+    go true ih h = absurd (omega (arith, p .0, h))
+    go false ih h = ih h
+
+pub prefix-passed : (xs ys : List Check) → firstRefusal (xs ++ ys) ≡ 0 → firstRefusal xs ≡ 0
+prefix-passed xs ys e = go (firstRefusal xs) refl
+  where
+    go : (n : ℕ) → firstRefusal xs ≡ n → n ≡ 0
+    go zero h = refl
+    go (suc n) h = absurd (omega (arith, e, refused-append xs ys n h))
 
 -- ---- an accepted shape
 
@@ -183,6 +204,14 @@ module _ (count : ℕ) (lens : List ℕ) (four : length lens ≡ 4) (u : Usable 
     (λ b k. usable-positive b (omega arith)),
     rw (take-take a count lens (omega arith)) at (room a h .outer-small),
   )
+
+  -- an axis has at least four points, and no more than the map
+  pub axis-small : (a : ℕ) → a < count → (4 ≤ getD lens a 0) × (getD lens a 0 ≤ mostPoints)
+  axis-small a h =
+      let r = room a h in
+      let one : 1 ≤ stride (take count lens) a = r .stride-pos in
+      let most : points (take count lens) a ≤ mostPoints = omega (arith, r .row-small, mul-le-mul-left (points (take count lens) a) one) in
+      (u .four-points a h, rw (points-are a h) at most)
 
   -- a line's cells are in the map
   pub in-map : (a l i : ℕ) → a < count → l < lines (take count lens) a → i < points (take count lens) a → first (take count lens) a l + i * stride (take count lens) a < size (take count lens)

@@ -36,7 +36,7 @@ stride-before (n ∷ ns) zero (suc a) h k = cut ns a (le-of-suc-le-suc k)
 stride-before (n ∷ ns) (suc d) (suc a) h k = stride-before ns d a (le-of-suc-le-suc h) (le-of-suc-le-suc k)
 
 -- the cells that the axes from i on have
-from-axis : (dims : List ℕ) (i : ℕ) → i < length dims → product (drop i dims) ≡ points dims i * stride dims i
+pub from-axis : (dims : List ℕ) (i : ℕ) → i < length dims → product (drop i dims) ≡ points dims i * stride dims i
 unfolding product
 from-axis dims i h = ap product (drop-cons dims i 0 h)
 

@@ -1,5 +1,5 @@
 -- `replay::record::compare_both` meets its contract. Assumes nothing.
-use Rattle.replay.proofs.WordLaws.{not-unreadable, not-differs}
+use Rattle.oracle_list.proofs.WordLaws.{not-unreadable, not-differs}
 use borrow.Author.Needs.{needs}
 use Rattle.replay.proofs.record.compare_both.Statement.{statement}
 use Rattle.replay.proofs.record.compare_both.Tie as tie

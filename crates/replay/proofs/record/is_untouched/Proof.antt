@@ -1,6 +1,6 @@
 -- `replay::record::is_untouched` meets its contract. Assumes nothing.
 use lib.Ieee.{ofBits, neg}
-use Rattle.replay.proofs.CellLaws.{Untouched-first, Untouched-second}
+use Rattle.replay.proofs.Untouched.{Untouched-first, Untouched-second}
 use borrow.Author.Needs.{needs}
 use Rattle.replay.proofs.record.is_untouched.Statement.{statement}
 use Rattle.replay.proofs.record.is_untouched.Tie as tie

@@ -1,0 +1,5 @@
+pub mod Carried
+pub mod Digits
+pub mod Four
+pub mod Sums
+pub mod Table

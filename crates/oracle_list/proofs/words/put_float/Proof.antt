@@ -1,0 +1,30 @@
+-- `oracle_list::words::put_float` meets its contract. Assumes nothing.
+use mathlib.Core.Path.{sym, _∙_}
+use borrow.Author.Needs.{needs}
+use Rattle.oracle_list.proofs.words.put_float.Statement.{statement}
+use Rattle.oracle_list.proofs.words.put_float.Tie as tie
+
+returns : tie.Need-returns
+returns c =
+    let x = c .before .before in
+    let v = sym (x .before .before .word .ensures) ∙ x .pattern .given .1 in
+    (rw v, rw (v, c .float-of .ensures))
+
+returns-2 : tie.Need-returns-2
+returns-2 c =
+    let v = sym (c .before .before .word .ensures) ∙ c .enum-told .given .1 in
+    (rw v, rw v)
+
+pub put-float-spec : {M : Type 1} → statement M
+put-float-spec =
+    tie.close
+    (tie.spec
+    (λ c κs. search needs)
+    (λ c. search needs)
+    (λ c κs. search needs)
+    (λ c. search needs)
+    (λ c. search needs)
+    (λ c. search needs)
+    (λ c. search needs)
+    returns
+    returns-2)

@@ -1,0 +1,29 @@
+-- Cells of the buffers, before and after a call. Assumes nothing.
+use mathlib.Core.Bool.{Bool, true, false, _&&_}
+use mathlib.Core.List.{List, [], _∷_}
+use Prim.Native.Nat.{ℕ, zero, suc}
+use lib.Ieee.{Float, binary64, add, sub, neg, le}
+use Rattle.float_text.specs.Bits.{sameBits}
+
+-- n cells that count from x on, by a step
+unfoldable pub counted : Float → Float → ℕ → List Float
+counted x step zero = []
+counted x step (suc n) = x ∷ counted (add binary64 x step) step n
+
+-- two lists are as long, and each cell passes a test with the other list's
+unfoldable pub everyPair : (Float → Float → Bool) → List Float → List Float → Bool
+everyPair test [] [] = true
+everyPair test [] (y ∷ ys) = false
+everyPair test (x ∷ xs) [] = false
+everyPair test (x ∷ xs) (y ∷ ys) = test x y && everyPair test xs ys
+
+-- the same bits, any NaN for any NaN
+abbrev pub sameCells : List Float → List Float → Bool
+sameCells xs ys = everyPair sameBits xs ys
+
+-- x is at most the tolerance away from y
+unfoldable pub isNear : Float → Float → Float → Bool
+isNear tolerance x y = le (sub binary64 x y) tolerance && le (neg tolerance) (sub binary64 x y)
+
+abbrev pub nearCells : Float → List Float → List Float → Bool
+nearCells tolerance xs ys = everyPair (isNear tolerance) xs ys

@@ -1,0 +1,52 @@
+use mathlib.Core.Path.{_≡_, refl, sym, _∙_}
+use native.Mathlib.Omega.{arith}
+use denote.Ref.{now}
+use lib.Ieee.{binary64}
+use borrow.Author.Needs.{needs}
+use Rattle.shape.specs.declared.answers.Refusal.the-variants.{DimensionMismatch}
+use Rattle.regular_map.proofs.Answers.{map-usable, map-sized, one-refused, one-map, one-length, one-answered}
+use Rattle.regular_map.proofs.eval.one.Statement.{statement}
+use Rattle.regular_map.proofs.eval.one.Tie as tie
+
+returns : tie.Need-returns
+returns c =
+    let w = c .before .before .before in
+    let a = w .before .before .before .args in
+    one-refused binary64 _ (now (a .coeffs)) (now (a .x)) _ (one-map binary64 _ (now (a .coeffs)) (now (a .x)) (c .before .refusal .given .1) (w .check-map .ensures))
+
+returns-2 : tie.Need-returns-2
+returns-2 c =
+    let t = c .before in
+    let w = t .before .before in
+    let a = w .before .before .before .args in
+    one-refused binary64 _ (now (a .coeffs)) (now (a .x)) DimensionMismatch (one-length binary64 _ (now (a .coeffs)) (now (a .x)) (t .enum-told .given .1) (w .check-map .ensures) (c .if1 .taken))
+
+query-requires : tie.Need-query-requires
+query-requires c κs =
+    let t = c .before in
+    let w = t .before .before in
+    let s = w .before .before .before in
+    let u = map-usable (s .args .count) (s .args .dims) (s .args .steps) _ (t .enum-told .given .1) (w .check-map .ensures) (omega (arith, s .good)) in
+    (u .at-most-four, omega arith, omega (arith, c .if1 .left))
+
+value-at-requires : tie.Need-value-at-requires
+value-at-requires c κs =
+    let t = c .before .before in
+    let w = t .before .before in
+    let s = w .before .before .before in (
+      map-usable (s .args .count) (s .args .dims) (s .args .steps) _ (t .enum-told .given .1) (w .check-map .ensures) (omega (arith, s .good)),
+      map-sized (s .args .count) (s .args .dims) (s .args .steps) _ (t .enum-told .given .1) (w .check-map .ensures),
+    )
+
+returns-3 : tie.Need-returns-3
+returns-3 c =
+    let q = c .before in
+    let i = q .before in
+    let t = i .before in
+    let w = t .before .before in
+    let a = w .before .before .before .args in
+    one-answered binary64 _ (now (a .coeffs)) (now (a .x)) (t .enum-told .given .1) (w .check-map .ensures) (i .if1 .left) (rw (q .query .ensures) at (c .value-at .ensures))
+
+pub one-spec : {M : Type 1} → statement M
+one-spec =
+    tie.close (tie.spec (λ c κs. search needs) (λ c. search needs) returns (λ c. search needs) returns-2 query-requires value-at-requires returns-3)

@@ -1,0 +1,55 @@
+use mathlib.Core.Path.{_≡_, refl, sym, _∙_}
+use native.Mathlib.Omega.{arith}
+use denote.Ref.{now}
+use lib.Ieee.{binary64}
+use borrow.Author.Needs.{needs}
+use Rattle.shape.specs.declared.answers.Refusal.the-variants.{DimensionMismatch}
+use Rattle.regular_map.proofs.Answers.{map-usable, map-sized, one-gradient-refused, one-map, one-length, one-gradient-answered}
+use Rattle.regular_map.proofs.eval.one_grad.Statement.{statement}
+use Rattle.regular_map.proofs.eval.one_grad.Tie as tie
+
+returns : tie.Need-returns
+returns c =
+    let k = c .before .before in
+    let w = k .before .before in
+    let a = w .before .before .before .args in
+    one-gradient-refused binary64 _ (now (a .coeffs)) (now (a .x)) (k .refusal .given .0 .0) (one-map binary64 _ (now (a .coeffs)) (now (a .x)) (k .refusal .given .1) (w .check-map .ensures)) (c .refused .ensures .0) (c .refused .ensures .1)
+
+returns-2 : tie.Need-returns-2
+returns-2 c =
+    let i = c .before in
+    let t = i .before in
+    let w = t .before .before in
+    let a = w .before .before .before .args in
+    one-gradient-refused binary64 _ (now (a .coeffs)) (now (a .x)) DimensionMismatch (one-length binary64 _ (now (a .coeffs)) (now (a .x)) (t .enum-told .given .1) (w .check-map .ensures) (i .if1 .taken)) (c .refused2 .ensures .0) (c .refused2 .ensures .1)
+
+query-requires : tie.Need-query-requires
+query-requires c κs =
+    let t = c .before in
+    let w = t .before .before in
+    let s = w .before .before .before in
+    let u = map-usable (s .args .count) (s .args .dims) (s .args .steps) _ (t .enum-told .given .1) (w .check-map .ensures) (omega (arith, s .good)) in
+    (u .at-most-four, omega arith, omega (arith, c .if1 .left))
+
+gradient-at-requires : tie.Need-gradient-at-requires
+gradient-at-requires c κs =
+    let t = c .before .before in
+    let w = t .before .before in
+    let s = w .before .before .before in (
+      map-usable (s .args .count) (s .args .dims) (s .args .steps) _ (t .enum-told .given .1) (w .check-map .ensures) (omega (arith, s .good)),
+      map-sized (s .args .count) (s .args .dims) (s .args .steps) _ (t .enum-told .given .1) (w .check-map .ensures),
+    )
+
+returns-3 : tie.Need-returns-3
+returns-3 c =
+    let q = c .before in
+    let i = q .before in
+    let t = i .before in
+    let w = t .before .before in
+    let a = w .before .before .before .args in
+    one-gradient-answered binary64 _ (now (a .coeffs)) (now (a .x)) (t .enum-told .given .1) (w .check-map .ensures) (i .if1 .left) (rw (q .query .ensures) at (c .gradient-at .ensures))
+
+pub one-grad-spec : {M : Type 1} → statement M
+one-grad-spec =
+    tie.close
+    (tie.spec (λ c κs. search needs) (λ c. search needs) (λ c κs. search needs) returns (λ c. search needs) (λ c κs. search needs) returns-2 query-requires gradient-at-requires returns-3)

@@ -1,0 +1,12 @@
+use mathlib.Core.Path.{refl}
+use lib.Ieee.{ofBits}
+use borrow.Author.Needs.{needs}
+use Rattle.regular_map.proofs.eval.refused.Statement.{statement}
+use Rattle.regular_map.proofs.eval.refused.Tie as tie
+
+returns : tie.Need-returns
+unfolding ofBits
+returns c = (refl, refl)
+
+pub refused-spec : {M : Type 1} → statement M
+refused-spec = tie.close (tie.spec returns)

@@ -1,0 +1,28 @@
+use mathlib.Core.Path.{_≡_}
+use Prim.Native.Nat.{_≤_, _<_}
+use native.Mathlib.Omega.{arith}
+use lib.ListN.{getD}
+use lib.Ieee.{binary64, ofBits}
+use borrow.Author.Needs.{needs}
+use borrow.Author.Tests.{le-ltb}
+use Rattle.shape.proofs.Accepted.{axis-small}
+use Rattle.regular_map.proofs.Places.{slopes-used}
+use Rattle.regular_map.proofs.eval.slopes_on.Statement.{statement}
+use Rattle.regular_map.proofs.eval.slopes_on.Tie as tie
+
+returns : tie.Need-returns
+unfolding ofBits
+returns c = rw (le-ltb _ _ (c .if1 .taken))
+
+slopes-row-requires : tie.Need-slopes-row-requires
+slopes-row-requires c κs =
+    let s = c .before in
+    axis-small (s .args .count) (s .args .t2) (omega (arith, s .good)) (s .pre .0) (s .args .a) (c .if1 .left)
+
+returns-2 : tie.Need-returns-2
+returns-2 c = slopes-used binary64 _ (c .before .before .args .t6) (c .before .if1 .left) (c .slopes-row .ensures)
+
+pub slopes-on-spec : {M : Type 1} → statement M
+slopes-on-spec =
+    tie.close
+    (tie.spec returns (λ c. search needs) (λ c. search needs) (λ c. search needs) (λ c. search needs) (λ c. search needs) (λ c. search needs) (λ c. search needs) (λ c. search needs) slopes-row-requires returns-2)

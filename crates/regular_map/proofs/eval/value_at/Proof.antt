@@ -1,0 +1,30 @@
+use native.Mathlib.Omega.{arith}
+use denote.Ref.{now}
+use lib.Ieee.{binary64}
+use borrow.Author.Needs.{needs}
+use Rattle.regular_map.proofs.Answers.{value-found, value-refused, reaches}
+use Rattle.regular_map.proofs.eval.value_at.Statement.{statement}
+use Rattle.regular_map.proofs.eval.value_at.Tie as tie
+
+value-from-requires : tie.Need-value-from-requires
+value-from-requires c κs =
+    let w = c .before .before .before in
+    let s = w .before .before in
+    (s .pre .0, reaches binary64 _ (now (s .args .coeffs)) (s .args .x) (w .first-of .ensures) (omega (arith, s .good)) (s .pre .0) (s .pre .1) (c .before .first .given .1))
+
+returns : tie.Need-returns
+returns c =
+    let o = c .before .before in
+    let w = o .before .before in
+    let a = w .before .before .args in
+    value-found binary64 _ (now (a .coeffs)) (a .x) (w .first-of .ensures) (o .first .given .1) (c .value-from .ensures)
+
+returns-2 : tie.Need-returns-2
+returns-2 c =
+    let w = c .before .before in
+    let a = w .before .before .args in
+    value-refused binary64 _ (now (a .coeffs)) (a .x) (w .first-of .ensures) (c .enum-told .given .1)
+
+pub value-at-spec : {M : Type 1} → statement M
+value-at-spec =
+    tie.close (tie.spec (λ c κs. search needs) (λ c. search needs) value-from-requires (λ c. search needs) returns returns-2)

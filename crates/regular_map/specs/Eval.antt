@@ -1,0 +1,119 @@
+-- The value and the gradient of a regular map at a query x, one coordinate an axis, each operation rounded to the format f.
+-- Assumes nothing.
+use mathlib.Core.Bool.{Bool, true, false, cond}
+use mathlib.Core.List.{List, [], _∷_}
+use Prim.Native.Nat.{ℕ, zero, suc, _+_, _*_, _<_}
+use lib.Dec.{ltb}
+use lib.ListN.{getD}
+use lib.Ieee.{Float, nan, Format}
+use Rattle.shape.specs.Sizes.{strideOf}
+use Rattle.multibspline.specs.Numbers.{f0}
+use Rattle.interp_math.specs.Sum.{summed, gradientPart}
+use Rattle.regular_weights.specs.Place.{getLoc, pastOrigin}
+use Rattle.regular_weights.specs.Weights.{interpWeights, interpWeightDerivatives}
+use Rattle.regular_weights.specs.declared.place.Loc.{Loc}
+use Rattle.regular_weights.specs.declared.place.Loc.the-variants.{At, Unrepresentable}
+use Rattle.regular_map.specs.declared.eval.First.{First}
+use Rattle.regular_map.specs.declared.eval.First.the-variants as First
+use Rattle.regular_map.specs.Map.{RegularMap}
+
+abbrev pub zeros : List Float
+zeros = f0 ∷ f0 ∷ f0 ∷ f0 ∷ []
+
+-- ---- one axis: n points, `start`, `step`, the flag, the coordinate x
+
+-- the weights and the slopes at a place; none where the cell cannot be represented
+abbrev pub weightsAt : Format → Float → Float → Bool → Float → Loc → List Float
+weightsAt f start step linear x (At sat origin) = interpWeights f linear sat (pastOrigin f start step x origin)
+weightsAt f start step linear x Unrepresentable = zeros
+
+abbrev pub slopesAt : Format → Float → Float → Bool → Float → Loc → List Float
+slopesAt f start step linear x (At sat origin) = interpWeightDerivatives f linear sat step (pastOrigin f start step x origin)
+slopesAt f start step linear x Unrepresentable = zeros
+
+-- ---- a map
+
+module _ (f : Format) (m : RegularMap) (x : List Float) where
+  -- the place on axis a
+  unfoldable pub locOn : ℕ → Loc
+  locOn a = getLoc f (getD (m .lens) a 0) (getD (m .starts) a nan) (getD (m .steps) a nan) (getD x a nan)
+
+  -- the first of the coefficients that count, over the first n axes: the sum of origin times stride. The first axis whose
+  -- cell cannot be represented refuses the query
+  abbrev pub onward : ℕ → First → Loc → First
+  onward stride First.Unrepresentable loc = First.Unrepresentable
+  onward stride (First.At i) Unrepresentable = First.Unrepresentable
+  onward stride (First.At i) (At sat origin) = First.At (i + origin * stride)
+
+  unfoldable pub firstOn : ℕ → First
+  firstOn zero = First.At 0
+  firstOn (suc a) = onward (strideOf (m .count) (m .lens) a) (firstOn a) (locOn a)
+
+  -- the weights of axis a, and its slopes
+  unfoldable pub weightsOn : ℕ → List Float
+  weightsOn a = weightsAt f (getD (m .starts) a nan) (getD (m .steps) a nan) (m .linear) (getD x a nan) (locOn a)
+
+  unfoldable pub slopesOn : ℕ → List Float
+  slopesOn a = slopesAt f (getD (m .starts) a nan) (getD (m .steps) a nan) (m .linear) (getD x a nan) (locOn a)
+
+-- a row for each of the four axes, zeros for those not in use
+abbrev pub rows : ℕ → (ℕ → List Float) → List (List Float)
+rows count row = used 0 ∷ used 1 ∷ used 2 ∷ used 3 ∷ []
+  where
+    used : ℕ → List Float
+    used a = cond (ltb a count) (row a) zeros
+
+abbrev pub strides : ℕ → List ℕ → List ℕ
+strides count lens = strideOf count lens 0 ∷ strideOf count lens 1 ∷ strideOf count lens 2 ∷ strideOf count lens 3 ∷ []
+
+-- the coefficients from `first` on that count lie within `coefs`
+pub record Reaches (count : ℕ) (lens : List ℕ) (first coefs : ℕ) : Type 0 where
+  pub within : first + 3 * (strideOf count lens 0 + strideOf count lens 1 + strideOf count lens 2 + strideOf count lens 3) < coefs
+
+-- from the first coefficient: the value, and part k of the gradient
+unfoldable pub valueFrom : Format → RegularMap → List Float → List Float → ℕ → Float
+valueFrom f m coefs x first = summed f coefs (strides (m .count) (m .lens)) (rows (m .count) (weightsOn f m x)) (m .count) first
+
+unfoldable pub gradientFrom : Format → RegularMap → List Float → List Float → ℕ → ℕ → Float
+gradientFrom f m coefs x first k =
+    gradientPart f coefs (strides (m .count) (m .lens)) (rows (m .count) (weightsOn f m x)) (rows (m .count) (slopesOn f m x)) (m .count) first k
+
+-- at the query: zero where it is refused
+abbrev pub valueAfter : Format → RegularMap → List Float → List Float → First → Float
+valueAfter f m coefs x (First.At first) = valueFrom f m coefs x first
+valueAfter f m coefs x First.Unrepresentable = f0
+
+abbrev pub partAfter : Format → RegularMap → List Float → List Float → ℕ → First → Float
+partAfter f m coefs x k (First.At first) = gradientFrom f m coefs x first k
+partAfter f m coefs x k First.Unrepresentable = f0
+
+unfoldable pub valueAt : Format → RegularMap → List Float → List Float → Float
+valueAt f m coefs x = valueAfter f m coefs x (firstOn f m x (m .count))
+
+unfoldable pub partAt : Format → RegularMap → List Float → List Float → ℕ → Float
+partAt f m coefs x k = partAfter f m coefs x k (firstOn f m x (m .count))
+
+-- four parts, zeros for axes not in use
+abbrev pub parts : ℕ → (ℕ → Float) → List Float
+parts count part = used 0 ∷ used 1 ∷ used 2 ∷ used 3 ∷ []
+  where
+    used : ℕ → Float
+    used k = cond (ltb k count) (part k) f0
+
+unfoldable pub gradientAt : Format → RegularMap → List Float → List Float → List Float
+gradientAt f m coefs x = parts (m .count) (partAt f m coefs x)
+
+-- does some axis refuse the query?
+abbrev pub isRefused : First → Bool
+isRefused (First.At first) = false
+isRefused First.Unrepresentable = true
+
+unfoldable pub refuses : Format → RegularMap → List Float → Bool
+refuses f m x = isRefused (firstOn f m x (m .count))
+
+-- query i of n, of coordinates that stand axis after axis; zeros for axes not in use
+unfoldable pub query : ℕ → List Float → ℕ → ℕ → List Float
+query count xs n i = coordinate 0 ∷ coordinate 1 ∷ coordinate 2 ∷ coordinate 3 ∷ []
+  where
+    coordinate : ℕ → Float
+    coordinate a = cond (ltb a count) (getD xs (a * n + i) nan) f0

@@ -1,0 +1,12 @@
+// Regular maps: the record, building, values, gradients and batches, double precision. After interpn's
+// multibspline::regular.
+mod axis;
+mod batch;
+mod build;
+mod eval;
+mod record;
+
+pub use eval::Gradient;
+pub use eval::Valued;
+pub use record::Built;
+pub use record::MultiBsplineRegular;

@@ -1,0 +1,116 @@
+// The record of a regular map. It travels by value; its coefficients are lent beside it, and each call looks at it anew.
+ghost use mathlib.Core.Path.{_≡_};
+ghost use Prim.Native.Nat.{_/_};
+ghost use lib.ListN.{length};
+ghost use lib.Ieee.{binary64};
+ghost use Rattle.shape.specs.Checks.{firstRefusal, regularFitChecks};
+ghost use Rattle.shape.specs.Refusal.{answerNumber};
+ghost use Rattle.regular.specs.Fit.{Fitted};
+ghost use Rattle.regular_map.specs.Map.{mapOf, BuiltFrom};
+ghost use Rattle.regular_map.specs.Checks.{mapAnswer, fromValuesAnswer, OneValue, OneGradient, batchAnswer, gradientBatchAnswer};
+ghost use Rattle.regular_map.specs.Batch.{Batch, badAt, valueStep, gradientStep};
+use crate::batch;
+use crate::build;
+use crate::eval;
+use crate::eval::Gradient;
+use crate::eval::Valued;
+use shape::Answer;
+use shape::Shape;
+
+// Entries for axes not in use are not looked at; building sets them to zero.
+pub struct MultiBsplineRegular {
+    pub count: usize,
+    pub dims: [usize; 4],
+    // the first point of each axis
+    pub starts: [f64; 4],
+    // the distance of two points on each axis
+    pub steps: [f64; 4],
+    // whether the map goes on in a straight line outside its grid
+    pub linearize_extrapolation: bool,
+}
+
+// The answer of a function that builds a map, and the map: nothing but zeros where it is refused.
+pub struct Built {
+    pub answer: Answer,
+    pub map: MultiBsplineRegular,
+}
+
+impl MultiBsplineRegular {
+    // The value at a query of one coordinate an axis, or the first of these refusals: 1, 2, 3 for the record's shape; 2, the
+    // length of the coefficients; 5, a step not above zero; 2, the number of coordinates; 6, a coordinate whose cell cannot
+    // be represented.
+    pub fn interp_one(self, coeffs: &[f64], x: &[f64]) -> Valued
+        ensures { λ r. ⌜ OneValue binary64 (mapOf self) (now (coeffs .entry)) (now (x .entry)) r ⌝ }
+    {
+        let dims = self.dims;
+        let starts = self.starts;
+        let steps = self.steps;
+        eval::one(self.count, dims, starts, steps, self.linearize_extrapolation, coeffs, x)
+    }
+
+    // The gradient at a query, with the refusals of interp_one.
+    pub fn interp_one_grad(self, coeffs: &[f64], x: &[f64]) -> Gradient
+        ensures { λ r. ⌜ OneGradient binary64 (mapOf self) (now (coeffs .entry)) (now (x .entry)) (answerNumber (r .answer)) (r .parts) ⌝ }
+    {
+        let dims = self.dims;
+        let starts = self.starts;
+        let steps = self.steps;
+        eval::one_grad(self.count, dims, starts, steps, self.linearize_extrapolation, coeffs, x)
+    }
+
+    // Values at a batch of queries, axis after axis: `out.len()` coordinates of axis 0, then those of axis 1, and so on. The
+    // refusals of interp_one, 2 where the numbers of coordinates and outputs disagree. A batch that is refused with 6 at an
+    // entry has written the entries before it and none from it on; any other refusal leaves `out` as it was.
+    pub fn interp(self, coeffs: &[f64], x: &[f64], out: &mut [f64]) -> Answer
+        ensures { λ r. ⌜ Batch (batchAnswer (mapOf self) (length (now (coeffs .entry))) (length (now (x .entry))) (length (now (out .entry)))) (badAt binary64 (mapOf self) (now (coeffs .entry)) (now (x .entry)) (length (now (out .entry)))) (valueStep binary64 (mapOf self) (now (coeffs .entry)) (now (x .entry)) (length (now (out .entry)))) (length (now (out .entry))) (now (out .entry)) (answerNumber r) (now (out .exit)) ⌝ }
+    {
+        let dims = self.dims;
+        let starts = self.starts;
+        let steps = self.steps;
+        batch::values(self.count, dims, starts, steps, self.linearize_extrapolation, coeffs, x, out)
+    }
+
+    // Gradients at a batch of queries, both axis after axis: of n entries, part k of entry i at k n + i. As `interp`; 2 also
+    // where the length of `out` is no multiple of the axis count.
+    pub fn interp_grad(self, coeffs: &[f64], x: &[f64], out: &mut [f64]) -> Answer
+        ensures { λ r. ⌜ Batch (gradientBatchAnswer (mapOf self) (length (now (coeffs .entry))) (length (now (x .entry))) (length (now (out .entry)))) (badAt binary64 (mapOf self) (now (coeffs .entry)) (now (x .entry)) (length (now (out .entry)) / self .count)) (gradientStep binary64 (mapOf self) (now (coeffs .entry)) (now (x .entry)) (length (now (out .entry)) / self .count)) (length (now (out .entry)) / self .count) (now (out .entry)) (answerNumber r) (now (out .exit)) ⌝ }
+    {
+        let dims = self.dims;
+        let starts = self.starts;
+        let steps = self.steps;
+        batch::gradients(self.count, dims, starts, steps, self.linearize_extrapolation, coeffs, x, out)
+    }
+
+    // A map from its coefficients, or the first of these refusals: 1, 2, 3 for the shape; 2, the length of `coeffs`; 5, a
+    // step not above zero.
+    pub fn new(
+        shape: Shape,
+        starts: [f64; 4],
+        steps: [f64; 4],
+        coeffs: &[f64],
+        linearize_extrapolation: bool,
+    ) -> Built
+        ensures { λ r. ⌜ BuiltFrom (mapAnswer (shape .count) (shape .dims) steps (length (now (coeffs .entry)))) (shape .count) (shape .dims) starts steps «linearize_extrapolation» r ⌝ }
+    {
+        let dims = shape.dims;
+        build::build(shape.count, dims, starts, steps, linearize_extrapolation, coeffs.len())
+    }
+
+    // Fits the values, then builds the map. The refusals of the fit, with `coeffs` and `scratch` untouched; then 5, a step
+    // not above zero, with the coefficients and scratch written.
+    pub fn from_values_with_workspace(
+        shape: Shape,
+        starts: [f64; 4],
+        steps: [f64; 4],
+        vals: &[f64],
+        coeffs: &mut [f64],
+        scratch: &mut [f64],
+        linearize_extrapolation: bool,
+    ) -> Built
+        ensures { λ r. ⌜ BuiltFrom (fromValuesAnswer (shape .count) (shape .dims) steps (length (now (vals .entry))) (length (now (coeffs .entry))) (length (now (scratch .entry)))) (shape .count) (shape .dims) starts steps «linearize_extrapolation» r ⌝ }
+        ensures { λ r. ⌜ Fitted binary64 (shape .count) (shape .dims) (now (vals .entry)) (now (coeffs .entry)) (now (scratch .entry)) (firstRefusal (regularFitChecks (shape .count) (shape .dims) (length (now (vals .entry))) (length (now (coeffs .entry))) (length (now (scratch .entry))))) (now (coeffs .exit)) (now (scratch .exit)) ⌝ }
+    {
+        let dims = shape.dims;
+        build::from_values(shape.count, dims, starts, steps, linearize_extrapolation, vals, coeffs, scratch)
+    }
+}

@@ -1,0 +1,5 @@
+pub mod Cells
+pub mod Floor
+pub mod Lengths
+pub mod Points
+pub mod Whole

@@ -1,0 +1,39 @@
+-- What a record of the list expects. Assumes nothing.
+use mathlib.Core.Path.{_≡_}
+use mathlib.Core.Bool.{Bool, true, false, _&&_}
+use mathlib.Core.List.{List, [], _∷_}
+use Prim.Native.Nat.{ℕ, _+_}
+use lib.IntN.{pos, negsuc}
+use lib.ListN.{length, getD}
+use lib.Ieee.{Float, fin}
+use Rattle.float_text.specs.Bits.{sameBits}
+use Rattle.oracle_list.specs.Cells.{counted, sameCells, isNear}
+use Rattle.oracle_list.specs.Words.{float, MatchWords}
+
+-- 1/2, 1, -1/4 and -1
+abbrev pub half : Float
+half = fin false 1 (negsuc 0)
+
+abbrev pub one : Float
+one = fin false 1 (pos 0)
+
+abbrev pub minusQuarter : Float
+minusQuarter = fin true 1 (negsuc 1)
+
+abbrev pub minusOne : Float
+minusOne = fin true 1 (pos 0)
+
+-- both buffers are as they are before every call: coefficient cell i holds i + 1/2, scratch cell i holds -i - 1/4
+unfoldable pub isUntouched : List Float → List Float → Bool
+isUntouched coefs scratch =
+    sameCells coefs (counted half one (length coefs)) && sameCells scratch (counted minusQuarter minusOne (length scratch))
+
+-- the lengths of the axes among a record's numbers
+abbrev pub lens : List ℕ → List ℕ
+lens numbers = getD numbers 1 0 ∷ getD numbers 2 0 ∷ getD numbers 3 0 ∷ getD numbers 4 0 ∷ []
+
+-- a fit is as a record of this kind expects: a published figure has near coefficients, any other fit the same bits
+pub record MatchFit (kind tolerance : ℕ) (text : List ℕ) (samples : ℕ) (coefs scratch : List Float) : Type 0 where
+  pub near : kind ≡ 3 → MatchWords (isNear (float tolerance)) text (10 + samples) coefs
+  pub same : (kind ≡ 3 → ⊥) → MatchWords sameBits text (10 + samples) coefs
+  pub left : (kind ≡ 3 → ⊥) → MatchWords sameBits text (10 + samples + length coefs) scratch

@@ -1,0 +1,165 @@
+// The queries of a record by themselves.
+ghost use mathlib.Core.Path.{_≡_};
+ghost use Prim.Native.Nat.{_≤_, _<_, _+_};
+ghost use lib.ListN.{length};
+use crate::map::map_of;
+use float_text::float_of;
+use regular_map::Valued;
+
+// A value's number, and the value: 0 where it is refused.
+struct One {
+    number: u64,
+    value: f64,
+}
+
+// A query's number, value and gradient.
+struct Asked {
+    number: u64,
+    value: f64,
+    parts: [f64; 4],
+}
+
+fn one_of(valued: Valued) -> One {
+    match valued {
+        Valued::Value(x) => {
+            One {
+                number: 0,
+                value: x,
+            }
+        }
+        Valued::Refused(refusal) => {
+            One {
+                number: refusal.number(),
+                value: 0.0,
+            }
+        }
+    }
+}
+
+// The number of both answers of a query; where they differ, one that is no answer's.
+fn joined(value: u64, gradient: u64) -> u64 {
+    if value == gradient {
+        return value;
+    }
+    18446744073709551615
+}
+
+// Coordinates of query i of n. Whether there are that many.
+fn gather(xs: &[f64], n: usize, i: usize, x: &mut [f64]) -> bool
+    requires { ⌜ (n ≤ 1024) × (i ≤ 1024) × (length (now x) ≤ 4) ⌝ }
+{
+    let mut at = i;
+    let mut k: usize = 0;
+    while k < x.len() {
+        if xs.len() <= at {
+            return false;
+        }
+        x[k] = xs[at];
+        at += n;
+        k += 1;
+    }
+    true
+}
+
+// The parts of query i of n are put axis after axis. Whether there is room.
+fn put_parts(parts: [f64; 4], count: usize, n: usize, i: usize, out: &mut [f64]) -> bool
+    requires { ⌜ (n ≤ 1024) × (i ≤ 1024) × (count ≤ 4) ⌝ }
+{
+    let mut at = i;
+    let mut k: usize = 0;
+    while k < count {
+        if out.len() <= at {
+            return false;
+        }
+        out[at] = parts[k];
+        at += n;
+        k += 1;
+    }
+    true
+}
+
+// A query by itself.
+fn ask(numbers: &[u64], coeffs: &[f64], x: &[f64]) -> Asked
+    requires { ⌜ length (now numbers) ≡ 22 ⌝ }
+{
+    let one = one_of(map_of(numbers).interp_one(coeffs, x));
+    let gradient = map_of(numbers).interp_one_grad(coeffs, x);
+    let answer = gradient.answer;
+    let parts = gradient.parts;
+    Asked {
+        number: joined(one.number, answer.number()),
+        value: one.value,
+        parts: parts,
+    }
+}
+
+fn put(cells: &mut [f64], i: usize, x: f64)
+    requires { ⌜ i < length (now cells) ⌝ }
+{
+    cells[i] = x;
+}
+
+// Number, value and gradient of query i of n are put where the list has them: the number as the bits of a float.
+fn put_asked(
+    asked: Asked,
+    count: usize,
+    n: usize,
+    i: usize,
+    answers: &mut [f64],
+    values: &mut [f64],
+    parts: &mut [f64],
+) -> bool
+    requires { ⌜ (count ≤ 4) × (n ≤ 1024) × (i ≤ 1024) ⌝ }
+    requires { ⌜ (i < length (now answers)) × (i < length (now values)) ⌝ }
+{
+    put(answers, i, float_of(asked.number));
+    put(values, i, asked.value);
+    let slopes = asked.parts;
+    put_parts(slopes, count, n, i, parts)
+}
+
+// Query i of n.
+fn ask_at(
+    numbers: &[u64],
+    coeffs: &[f64],
+    xs: &[f64],
+    x: &mut [f64],
+    n: usize,
+    i: usize,
+    answers: &mut [f64],
+    values: &mut [f64],
+    parts: &mut [f64],
+) -> bool
+    requires { ⌜ (length (now numbers) ≡ 22) × (length (now x) ≤ 4) × (n ≤ 1024) × (i ≤ 1024) ⌝ }
+    requires { ⌜ (i < length (now answers)) × (i < length (now values)) ⌝ }
+{
+    if !gather(xs, n, i, x) {
+        return false;
+    }
+    let asked = ask(numbers, coeffs, x);
+    put_asked(asked, x.len(), n, i, answers, values, parts)
+}
+
+// Every query, as many as `answers` holds; x is a buffer for the coordinates of one.
+pub fn ask_all(
+    numbers: &[u64],
+    coeffs: &[f64],
+    xs: &[f64],
+    x: &mut [f64],
+    answers: &mut [f64],
+    values: &mut [f64],
+    parts: &mut [f64],
+) -> bool
+    requires { ⌜ (length (now numbers) ≡ 22) × (length (now x) ≤ 4) ⌝ }
+    requires { ⌜ (length (now answers) ≤ 1024) × (length (now values) ≡ length (now answers)) ⌝ }
+{
+    let n = answers.len();
+    let mut i: usize = 0;
+    while i < n {
+        if !ask_at(numbers, coeffs, xs, x, n, i, answers, values, parts) {
+            return false;
+        }
+        i += 1;
+    }
+    true
+}

@@ -1,0 +1,335 @@
+// One record of the list: a map, its batches and its queries, and what it expects of them.
+ghost use mathlib.Core.Path.{_≡_};
+ghost use Prim.Native.Nat.{_≤_};
+ghost use lib.ListN.{length};
+use crate::batch;
+use crate::map::size;
+use crate::ones;
+use oracle_list::Compared;
+
+// What came of a record. A bool says whether all was as the record expects.
+pub enum Outcome {
+    // the list has no more records
+    End,
+    Unreadable,
+    // and the number of queries
+    Map(u64, bool),
+    Refused(bool),
+}
+
+fn both(a: Compared, b: Compared) -> Compared {
+    match a {
+        Compared::Same => b,
+        Compared::Differs => {
+            match b {
+                Compared::Unreadable => Compared::Unreadable,
+                _ => Compared::Differs,
+            }
+        }
+        Compared::Unreadable => Compared::Unreadable,
+    }
+}
+
+// The two batches. Where the record has no queries that are answered, n is 0.
+fn replay_batches(
+    text: &[u8],
+    numbers: &[u64],
+    count: usize,
+    n: usize,
+    first: usize,
+    coeffs: &[f64],
+    xs: &[f64],
+    out: &mut [f64],
+    wanted: &mut [f64],
+) -> Compared
+    requires { ⌜ (length (now numbers) ≡ 22) × (count ≤ 4) × (n ≤ 1024) × (first ≤ 4096) ⌝ }
+{
+    let o = size(numbers[16]);
+    let g = size(numbers[17]);
+    if o > out.len() {
+        return Compared::Unreadable;
+    }
+    if g > out.len() {
+        return Compared::Unreadable;
+    }
+    if out.len() != wanted.len() {
+        return Compared::Unreadable;
+    }
+    let second = first + n;
+    let a = batch::values(
+        text,
+        numbers,
+        second,
+        coeffs,
+        xs,
+        &mut out[..o],
+        &mut wanted[..o],
+    );
+    let b = batch::gradients(
+        text,
+        numbers,
+        second + n,
+        n,
+        count,
+        coeffs,
+        xs,
+        &mut out[..g],
+        &mut wanted[..g],
+    );
+    both(a, b)
+}
+
+// The queries by themselves, on buffers of their lengths.
+fn replay_ones(
+    text: &[u8],
+    numbers: &[u64],
+    first: usize,
+    coeffs: &[f64],
+    xs: &[f64],
+    x: &mut [f64],
+    answers: &mut [f64],
+    values: &mut [f64],
+    parts: &mut [f64],
+    wanted: &mut [f64],
+) -> Compared
+    requires { ⌜ (length (now numbers) ≡ 22) × (length (now x) ≤ 4) × (first ≤ 4096) ⌝ }
+    requires { ⌜ (length (now answers) ≤ 1024) × (length (now values) ≡ length (now answers)) ⌝ }
+{
+    let second = first + answers.len();
+    let third = second + answers.len();
+    if !ones::ask_all(numbers, coeffs, xs, x, answers, values, parts) {
+        return Compared::Unreadable;
+    }
+    let a = oracle_list::compare(text, first, answers, wanted);
+    let b = oracle_list::compare(text, second, values, wanted);
+    let c = oracle_list::compare(text, third, parts, wanted);
+    both(both(a, b), c)
+}
+
+fn replay_queries(
+    text: &[u8],
+    numbers: &[u64],
+    count: usize,
+    n: usize,
+    first: usize,
+    coeffs: &[f64],
+    xs: &[f64],
+    out: &mut [f64],
+    answers: &mut [f64],
+    values: &mut [f64],
+    wanted: &mut [f64],
+) -> Compared
+    requires { ⌜ (length (now numbers) ≡ 22) × (count ≤ 4) × (n ≤ 1024) × (first ≤ 4096) ⌝ }
+{
+    if n > answers.len() {
+        return Compared::Unreadable;
+    }
+    if n > values.len() {
+        return Compared::Unreadable;
+    }
+    if xs.len() > out.len() {
+        return Compared::Unreadable;
+    }
+    let m = xs.len();
+    let mut x = [0.0f64; 4];
+    replay_ones(
+        text,
+        numbers,
+        first,
+        coeffs,
+        xs,
+        &mut x[..count],
+        &mut answers[..n],
+        &mut values[..n],
+        &mut out[..m],
+        wanted,
+    )
+}
+
+// Whether a batch's queries are looked at: it is accepted, or stopped by one of them.
+fn is_begun(answer: u64) -> bool {
+    if answer == 0 {
+        return true;
+    }
+    answer == 6
+}
+
+fn judge_map(n: usize, compared: Compared) -> Outcome {
+    match compared {
+        Compared::Same => Outcome::Map(n as u64, true),
+        Compared::Differs => Outcome::Map(n as u64, false),
+        Compared::Unreadable => Outcome::Unreadable,
+    }
+}
+
+fn judge_refusal(compared: Compared) -> Outcome {
+    match compared {
+        Compared::Same => Outcome::Refused(true),
+        Compared::Differs => Outcome::Refused(false),
+        Compared::Unreadable => Outcome::Unreadable,
+    }
+}
+
+// A record whose queries are answered, one by one: the batches, then the queries by themselves.
+fn replay_map(
+    text: &[u8],
+    numbers: &[u64],
+    first: usize,
+    coeffs: &[f64],
+    xs: &[f64],
+    out: &mut [f64],
+    answers: &mut [f64],
+    values: &mut [f64],
+    wanted: &mut [f64],
+) -> Outcome
+    requires { ⌜ (length (now numbers) ≡ 22) × (length (now xs) ≤ 1024) × (first ≤ 4096) ⌝ }
+{
+    let count = size(numbers[0]);
+    if count == 0 {
+        return Outcome::Unreadable;
+    }
+    if count > 4 {
+        return Outcome::Unreadable;
+    }
+    let n = xs.len() / count;
+    if n > 1024 {
+        return Outcome::Unreadable;
+    }
+    if text.len() / 17 != first + n + n + xs.len() {
+        return Outcome::Unreadable;
+    }
+    let a = replay_batches(text, numbers, count, n, first, coeffs, xs, out, wanted);
+    let b = replay_queries(
+        text,
+        numbers,
+        count,
+        n,
+        first,
+        coeffs,
+        xs,
+        out,
+        answers,
+        values,
+        wanted,
+    );
+    judge_map(n, both(a, b))
+}
+
+// A record that is refused as a whole: the batches, which write nothing.
+fn replay_refusal(
+    text: &[u8],
+    numbers: &[u64],
+    first: usize,
+    coeffs: &[f64],
+    xs: &[f64],
+    out: &mut [f64],
+    wanted: &mut [f64],
+) -> Outcome
+    requires { ⌜ (length (now numbers) ≡ 22) × (first ≤ 4096) ⌝ }
+{
+    if text.len() / 17 != first {
+        return Outcome::Unreadable;
+    }
+    judge_refusal(replay_batches(text, numbers, 0, 0, first, coeffs, xs, out, wanted))
+}
+
+// Reads the coefficients and the coordinates, as many as the buffers hold, and replays.
+fn replay_sized(
+    text: &[u8],
+    numbers: &[u64],
+    coeffs: &mut [f64],
+    xs: &mut [f64],
+    out: &mut [f64],
+    answers: &mut [f64],
+    values: &mut [f64],
+    wanted: &mut [f64],
+) -> Outcome
+    requires { ⌜ (length (now numbers) ≡ 22) × (length (now coeffs) ≤ 1024) × (length (now xs) ≤ 1024) ⌝ }
+{
+    let second = 22 + coeffs.len();
+    let first = second + xs.len();
+    if !oracle_list::read_floats(text, 22, coeffs) {
+        return Outcome::Unreadable;
+    }
+    if !oracle_list::read_floats(text, second, xs) {
+        return Outcome::Unreadable;
+    }
+    if is_begun(numbers[18]) {
+        return replay_map(
+            text,
+            numbers,
+            first,
+            coeffs,
+            xs,
+            out,
+            answers,
+            values,
+            wanted,
+        );
+    }
+    if is_begun(numbers[20]) {
+        return replay_map(
+            text,
+            numbers,
+            first,
+            coeffs,
+            xs,
+            out,
+            answers,
+            values,
+            wanted,
+        );
+    }
+    replay_refusal(text, numbers, first, coeffs, xs, out, wanted)
+}
+
+// Replays a record from its third word on: its 22 numbers, then its floats.
+pub fn replay(
+    kind: u64,
+    text: &[u8],
+    coeffs: &mut [f64],
+    xs: &mut [f64],
+    out: &mut [f64],
+    answers: &mut [f64],
+    values: &mut [f64],
+    wanted: &mut [f64],
+) -> Outcome
+    requires { ⌜ (length (now coeffs) ≤ 1024) × (length (now xs) ≤ 1024) ⌝ }
+{
+    let mut numbers = [0u64; 22];
+    if !oracle_list::read_numbers(text, &mut numbers) {
+        return Outcome::Unreadable;
+    }
+    if !is_kind(kind, numbers[13]) {
+        return Outcome::Unreadable;
+    }
+    let c = size(numbers[14]);
+    let x = size(numbers[15]);
+    if c > coeffs.len() {
+        return Outcome::Unreadable;
+    }
+    if x > xs.len() {
+        return Outcome::Unreadable;
+    }
+    replay_sized(
+        text,
+        &numbers,
+        &mut coeffs[..c],
+        &mut xs[..x],
+        out,
+        answers,
+        values,
+        wanted,
+    )
+}
+
+// Whether a record may be of this kind, and have this flag.
+fn is_kind(kind: u64, flag: u64) -> bool {
+    if flag > 1 {
+        return false;
+    }
+    if kind == 4 {
+        return true;
+    }
+    kind == 5
+}

@@ -1,0 +1,209 @@
+// One map with a batch of queries, and what the Rust answers to it.
+use interpn::multibspline::regular::MultiBsplineRegular;
+
+#[derive(Clone)]
+pub struct Map {
+    pub count: u64,
+    // lengths, starts and steps past the axis count are not looked at
+    pub dims: [u64; 4],
+    pub starts: [f64; 4],
+    pub steps: [f64; 4],
+    pub linear: bool,
+    pub coefs: Vec<f64>,
+    // coordinates, axis after axis
+    pub xs: Vec<f64>,
+    // lengths of the two output buffers
+    pub values: usize,
+    pub parts: usize,
+}
+
+// A call of a batch: the answer's number, 0 where it is accepted, and how many queries' answers it writes.
+#[derive(Clone, Copy, PartialEq, Debug)]
+pub struct Batch {
+    pub number: u64,
+    pub written: usize,
+}
+
+// A query by itself: 0 and its value and gradient, or 6 and zeros.
+#[derive(Clone)]
+pub struct One {
+    pub number: u64,
+    pub value: f64,
+    pub parts: Vec<f64>,
+}
+
+pub struct Answer {
+    pub values: Batch,
+    pub parts: Batch,
+    // every query by itself; none where both batches are refused as a whole
+    pub ones: Vec<One>,
+}
+
+const LOWEST: f64 = -9223372036854775808.0;
+
+// What output cell i holds before a call.
+pub fn before(n: usize) -> Vec<f64> {
+    (0..n).map(|i| i as f64 + 0.5).collect()
+}
+
+// n cells in `count` parts, as even as can be, the longer ones first: where they are uneven, no call accepts them.
+fn ends(n: usize, count: usize) -> Vec<usize> {
+    (0..count).map(|k| n / count + usize::from(k < n % count)).collect()
+}
+
+impl Map {
+    // The floor of a coordinate's quotient.
+    pub fn floor(&self, axis: usize, x: f64) -> f64 {
+        ((x - self.starts[axis]) / self.steps[axis]).floor()
+    }
+
+    pub fn queries(&self) -> usize {
+        self.xs.len() / self.count as usize
+    }
+
+    // Coordinate of query i.
+    pub fn x(&self, axis: usize, i: usize) -> f64 {
+        self.xs[axis * self.queries() + i]
+    }
+
+    // Whether the Rust's subtraction overflows at query i: there it is not asked.
+    pub fn overflows(&self, i: usize) -> bool {
+        (0..self.count as usize).any(|axis| self.floor(axis, self.x(axis, i)) == LOWEST)
+    }
+
+    // The Rust's answer; the axis count is 1 to 4.
+    pub fn answer(&self) -> Answer {
+        match self.count {
+            1 => self.run::<1>(),
+            2 => self.run::<2>(),
+            3 => self.run::<3>(),
+            4 => self.run::<4>(),
+            _ => panic!("the Rust is not run with {} axes", self.count),
+        }
+    }
+
+    fn run<const N: usize>(&self) -> Answer {
+        let dims: [usize; N] = std::array::from_fn(|axis| self.dims[axis] as usize);
+        let starts: [f64; N] = std::array::from_fn(|axis| self.starts[axis]);
+        let steps: [f64; N] = std::array::from_fn(|axis| self.steps[axis]);
+        let map = match MultiBsplineRegular::new(dims, starts, steps, &self.coefs, self.linear) {
+            Ok(map) => map,
+            Err(text) => {
+                let refused = Batch { number: number(Err(text)), written: 0 };
+                return Answer { values: refused, parts: refused, ones: Vec::new() };
+            }
+        };
+        let fits = self.values * N == self.xs.len() || self.parts == self.xs.len() && self.parts % N == 0;
+        let ones: Vec<One> = if fits { (0..self.queries()).map(|i| self.one(&map, i)).collect() } else { Vec::new() };
+        if (0..ones.len()).any(|i| self.overflows(i)) {
+            return self.joined(ones);
+        }
+        Answer { values: self.value_batch(&map, &ones), parts: self.part_batch(&map, &ones), ones }
+    }
+
+    // Query i by itself.
+    fn one<const N: usize>(&self, map: &MultiBsplineRegular<f64, N>, i: usize) -> One {
+        let refused = One { number: 6, value: 0.0, parts: vec![0.0; N] };
+        if self.overflows(i) {
+            return refused;
+        }
+        let x: [f64; N] = std::array::from_fn(|axis| self.x(axis, i));
+        let value = map.interp_one(x);
+        let parts = map.interp_one_grad(x);
+        assert_eq!(number(value.map(|_| ())), number(parts.map(|_| ())), "value and gradient are refused together");
+        match (value, parts) {
+            (Ok(value), Ok(parts)) => One { number: 0, value, parts: parts.to_vec() },
+            (refusal, _) => {
+                assert_eq!(number(refusal.map(|_| ())), 6);
+                refused
+            }
+        }
+    }
+
+    // The batches of a record in which the Rust overflows, from the answers of the queries.
+    fn joined(&self, ones: Vec<One>) -> Answer {
+        let batch = expected(&ones);
+        assert!(self.values == ones.len() && self.parts == self.xs.len());
+        Answer { values: batch, parts: batch, ones }
+    }
+
+    // The batch of values, held against the queries by themselves.
+    fn value_batch<const N: usize>(&self, map: &MultiBsplineRegular<f64, N>, ones: &[One]) -> Batch {
+        let mut out = before(self.values);
+        let number = number(map.interp(&self.split(), &mut out));
+        if number != 0 && number != 6 {
+            assert_eq!(out, before(self.values), "a refusal changed the output");
+            return Batch { number, written: 0 };
+        }
+        let batch = expected(ones);
+        assert_eq!(number, batch.number);
+        let mut wanted = before(self.values);
+        for (i, one) in ones[..batch.written].iter().enumerate() {
+            wanted[i] = one.value;
+        }
+        assert!(same(&out, &wanted), "the batch answers otherwise");
+        batch
+    }
+
+    // The batch of gradients, likewise.
+    fn part_batch<const N: usize>(&self, map: &MultiBsplineRegular<f64, N>, ones: &[One]) -> Batch {
+        let mut out = before(self.parts);
+        let mut rest: &mut [f64] = &mut out;
+        let mut pieces = Vec::new();
+        for length in ends(self.parts, N) {
+            let (piece, more) = rest.split_at_mut(length);
+            pieces.push(piece);
+            rest = more;
+        }
+        let mut pieces: [&mut [f64]; N] = pieces.try_into().unwrap();
+        let number = number(map.interp_grad(&self.split(), &mut pieces));
+        if number != 0 && number != 6 {
+            assert_eq!(out, before(self.parts), "a refusal changed the output");
+            return Batch { number, written: 0 };
+        }
+        let batch = expected(ones);
+        assert_eq!(number, batch.number);
+        let mut wanted = before(self.parts);
+        for (i, one) in ones[..batch.written].iter().enumerate() {
+            for (axis, part) in one.parts.iter().enumerate() {
+                wanted[axis * ones.len() + i] = *part;
+            }
+        }
+        assert!(same(&out, &wanted), "the batch answers otherwise");
+        batch
+    }
+
+    // The coordinates, axis by axis.
+    fn split<const N: usize>(&self) -> [&[f64]; N] {
+        let mut rest: &[f64] = &self.xs;
+        let lengths = ends(self.xs.len(), N);
+        std::array::from_fn(|axis| {
+            let (piece, more) = rest.split_at(lengths[axis]);
+            rest = more;
+            piece
+        })
+    }
+}
+
+// A batch whose lengths are right: it writes what stands before the first query that is refused.
+fn expected(ones: &[One]) -> Batch {
+    match ones.iter().position(|one| one.number != 0) {
+        Some(i) => Batch { number: 6, written: i },
+        None => Batch { number: 0, written: ones.len() },
+    }
+}
+
+fn same(a: &[f64], b: &[f64]) -> bool {
+    a.len() == b.len() && a.iter().zip(b).all(|(x, y)| x.to_bits() == y.to_bits() || x.is_nan() && y.is_nan())
+}
+
+// The number of the Rust's answer.
+fn number(result: Result<(), &'static str>) -> u64 {
+    match result {
+        Ok(()) => 0,
+        Err("Dimension mismatch") => 2,
+        Err("All grids must be monotonically increasing") => 5,
+        Err("Unrepresentable coordinate value") => 6,
+        Err(text) => panic!("no number for: {text}"),
+    }
+}

@@ -1,0 +1,257 @@
+// The maps whose queries are answered: every axis count, grid, kind of coefficients and place.
+use crate::list::List;
+use crate::map::Map;
+use crate::random::Random;
+use crate::samples::{KINDS, samples};
+
+const SEED: u64 = 0x26_574e_b564;
+
+// The grids: starts and steps.
+const GRIDS: [&str; 10] =
+    ["unit", "ordinary", "fine", "coarse", "tiny", "subnormal", "huge", "lost digits", "infinite step", "any step"];
+
+const TWO_63: f64 = 9223372036854775808.0;
+
+pub fn add(list: &mut List) {
+    let mut random = Random::new(SEED);
+    for grid in GRIDS {
+        for count in 1..=4 {
+            for turn in 0..turns(grid, count) {
+                let kind = coefficients(&mut random, turn);
+                one(list, &mut random, grid, kind, count, turn % 2 == 1);
+            }
+        }
+    }
+    for kind in KINDS {
+        for (i, &count) in [1, 1, 2, 2, 3].iter().enumerate() {
+            one(list, &mut random, "ordinary", kind, count, i % 2 == 1);
+        }
+    }
+    far(list, &mut random);
+    bad_starts(list, &mut random);
+    stopped(list, &mut random);
+    mixed_lengths(list, &mut random);
+    empty(list, &mut random);
+    overflows(list, &mut random);
+}
+
+// How many maps of a grid have this many axes.
+fn turns(grid: &str, count: usize) -> usize {
+    match (grid, count) {
+        ("unit" | "ordinary", 4) => 4,
+        ("unit" | "ordinary", _) => 6,
+        (_, 4) => 2,
+        (_, _) => 4,
+    }
+}
+
+fn coefficients(random: &mut Random, turn: usize) -> &'static str {
+    if turn < 2 { "ordinary" } else { random.pick(&KINDS) }
+}
+
+fn one(list: &mut List, random: &mut Random, grid: &str, kind: &str, count: usize, linear: bool) {
+    let mut map = bare(random, grid, kind, count, linear);
+    let n = [28, 20, 14, 12][count - 1];
+    ask(random, &mut map, n);
+    list.map(&format!("{count} axes, {grid}"), &map);
+}
+
+// A map with no queries yet.
+pub fn bare(random: &mut Random, grid: &str, kind: &str, count: usize, linear: bool) -> Map {
+    let most = [7, 7, 5, 4][count - 1];
+    let mut dims = if random.below(3) == 0 { junk(random) } else { [0; 4] };
+    let mut starts = if random.below(3) == 0 { junk(random).map(f64::from_bits) } else { [0.0; 4] };
+    let mut steps = if random.below(3) == 0 { [0.0, -1.0, f64::NAN, 1.0] } else { [0.0; 4] };
+    for axis in 0..count {
+        dims[axis] = random.between(4, most);
+        (starts[axis], steps[axis]) = line(random, grid);
+    }
+    let size: u64 = dims[..count].iter().product();
+    let coefs = samples(random, kind, size as usize);
+    Map { count: count as u64, dims, starts, steps, linear, coefs, xs: Vec::new(), values: 0, parts: 0 }
+}
+
+fn junk(random: &mut Random) -> [u64; 4] {
+    std::array::from_fn(|_| random.pick(&[0, 1, 3, 4, 9, 1 << 24, 1 << 63, u64::MAX]))
+}
+
+// Start and step of an axis.
+fn line(random: &mut Random, grid: &str) -> (f64, f64) {
+    match grid {
+        "unit" => (random.between(0, 4) as f64 - 2.0, 1.0),
+        "ordinary" => (random.unit() * 10.0, random.unit().abs() * 3.0 + 0.01),
+        "fine" => (random.unit(), random.float(-40, -20).abs()),
+        "coarse" => (random.unit() * 100.0, random.float(20, 60).abs()),
+        "tiny" => (random.float(-1015, -1010), random.float(-1022, -1010).abs()),
+        "subnormal" => (random.pick(&[0.0, -0.0, 5e-324, -1e-320]), random.pick(&[5e-324, 1e-323, 1e-310, 2e-308])),
+        "huge" => (random.float(900, 1020), random.float(1000, 1022).abs()),
+        "lost digits" => (random.float(52, 56), random.pick(&[0.1, 0.7, 1.0, 3.0])),
+        "infinite step" => (random.unit(), random.pick(&[f64::INFINITY, f64::MAX, f64::INFINITY])),
+        _ => (random.pick(&[0.0, -0.0, 1.0, f64::MAX, f64::MIN]), random.float(-1022, 1023).abs()),
+    }
+}
+
+// The map is asked n queries.
+pub fn ask(random: &mut Random, map: &mut Map, n: usize) {
+    let count = map.count as usize;
+    map.xs = vec![0.0; count * n];
+    for axis in 0..count {
+        for i in 0..n {
+            map.xs[axis * n + i] = coordinate(random, map, axis);
+        }
+    }
+    map.values = n;
+    map.parts = count * n;
+}
+
+// A coordinate that the Rust answers, or refuses: one at which it overflows is drawn again.
+fn coordinate(random: &mut Random, map: &Map, axis: usize) -> f64 {
+    loop {
+        let x = drawn(random, map, axis);
+        let floor = map.floor(axis, x);
+        let refused = !(floor >= -TWO_63 && floor < TWO_63);
+        if floor != -TWO_63 && (!refused || random.below(12) == 0) {
+            return x;
+        }
+        if refused && !(map.starts[axis] - map.starts[axis] == 0.0) {
+            return x;
+        }
+        if refused && random.below(8) == 0 {
+            return map.starts[axis];
+        }
+    }
+}
+
+fn drawn(random: &mut Random, map: &Map, axis: usize) -> f64 {
+    let (start, step, last) = (map.starts[axis], map.steps[axis], map.dims[axis] as f64 - 1.0);
+    let part = random.unit().abs();
+    let at = |cells: f64| start + step * cells;
+    match random.below(16) {
+        0 | 1 => at(part),
+        2 | 3 => at(1.0 + part * (last - 2.0)),
+        4 => at(last - part),
+        5 => at(-3.0 * part),
+        6 => at(last + 3.0 * part),
+        7 | 8 => at(random.between(0, last as u64) as f64),
+        9 => at(random.between(0, last as u64) as f64).next_up(),
+        10 => at(random.between(0, last as u64) as f64).next_down(),
+        11 => at(random.between(0, last as u64 + 6) as f64 - 3.0),
+        12 => at(random.pick(&[0.0, 1.0, last - 1.0, last])),
+        13 => at(random.float(3, 30)),
+        14 => at(random.float(30, 62)),
+        _ => random.pick(&[0.0, -0.0, 1.0, -1.0, 5e-324, f64::MIN_POSITIVE, -1e300]),
+    }
+}
+
+// Quotients about the ends of the signed 64-bit range, NaN and infinite queries.
+fn far(list: &mut List, random: &mut Random) {
+    let ends = [
+        TWO_63,
+        TWO_63.next_down(),
+        TWO_63.next_up(),
+        (-TWO_63).next_up(),
+        (-TWO_63).next_down(),
+        TWO_63 / 2.0,
+        -TWO_63 / 2.0,
+        f64::NAN,
+        f64::from_bits(0xfff8_0000_0000_0001),
+        f64::INFINITY,
+        f64::NEG_INFINITY,
+        f64::MAX,
+        f64::MIN,
+    ];
+    for count in 1..=4 {
+        for linear in [false, true] {
+            for step in [1.0, 0.25, 1024.0] {
+                let mut map = bare(random, "unit", "ordinary", count, linear);
+                map.starts[..count].fill(0.0);
+                map.steps[..count].fill(step);
+                ask(random, &mut map, ends.len());
+                let axis = random.below(count as u64) as usize;
+                for (i, end) in ends.iter().enumerate() {
+                    map.xs[axis * ends.len() + i] = end * step;
+                }
+                list.map(&format!("{count} axes, far and not finite"), &map);
+            }
+        }
+    }
+}
+
+// Starts that are NaN or infinite: every query is refused.
+fn bad_starts(list: &mut List, random: &mut Random) {
+    for count in 1..=4 {
+        for start in [f64::NAN, f64::INFINITY, f64::NEG_INFINITY] {
+            let linear = random.below(2) == 0;
+            let mut map = bare(random, "ordinary", "ordinary", count, linear);
+            let axis = random.below(count as u64) as usize;
+            map.starts[axis] = start;
+            ask(random, &mut map, 3);
+            map.xs[axis * 3] = start;
+            list.map(&format!("{count} axes, start not finite"), &map);
+        }
+    }
+}
+
+// Batches that a query stops: at the first, at the last, and between.
+fn stopped(list: &mut List, random: &mut Random) {
+    for count in 1..=4 {
+        let n = 6;
+        for at in 0..n {
+            let mut map = bare(random, "ordinary", "mixture", count, at % 2 == 1);
+            ask(random, &mut map, n);
+            for axis in 0..count {
+                for i in 0..n {
+                    map.xs[axis * n + i] = map.starts[axis] + map.steps[axis] * random.unit() * 8.0;
+                }
+            }
+            let axis = random.below(count as u64) as usize;
+            map.xs[axis * n + at] = random.pick(&[f64::NAN, f64::INFINITY, f64::NEG_INFINITY, 1e300]);
+            list.map(&format!("{count} axes, stopped"), &map);
+        }
+    }
+}
+
+// One of the two outputs has a wrong length: that batch alone is refused.
+fn mixed_lengths(list: &mut List, random: &mut Random) {
+    for count in 1..=4 {
+        for turn in 0..6 {
+            let mut map = bare(random, "ordinary", "ordinary", count, turn % 2 == 1);
+            ask(random, &mut map, 3);
+            match turn {
+                0 => map.values += 1,
+                1 => map.values -= 1,
+                2 => map.values = 0,
+                3 => map.parts += 1,
+                4 => map.parts -= 1,
+                _ => map.parts += count,
+            }
+            list.map(&format!("{count} axes, one output of a wrong length"), &map);
+        }
+    }
+}
+
+// No queries: accepted, and nothing is written.
+fn empty(list: &mut List, random: &mut Random) {
+    for count in 1..=4 {
+        for linear in [false, true] {
+            let mut map = bare(random, "ordinary", "any bits", count, linear);
+            ask(random, &mut map, 0);
+            list.map(&format!("{count} axes, no queries"), &map);
+        }
+    }
+}
+
+// Queries at which the Rust overflows: a floor of -2^63. The papers say 6.
+fn overflows(list: &mut List, random: &mut Random) {
+    for count in 1..=4 {
+        for (turn, step) in [1.0, 0.5, 4096.0].into_iter().enumerate() {
+            let mut map = bare(random, "unit", "ordinary", count, turn % 2 == 1);
+            map.starts[..count].fill(0.0);
+            map.steps[..count].fill(step);
+            ask(random, &mut map, 5);
+            let axis = random.below(count as u64) as usize;
+            map.xs[axis * 5 + turn + 1] = -TWO_63 * step;
+            list.papers_map(&format!("{count} axes, floor -2^63"), &map);
+        }
+    }
+}
