@@ -5,3 +5,5 @@ pub mod Places
 pub mod Answers
 pub mod Batches
 pub mod Builds
+pub mod Total
+pub mod Points

@@ -63,7 +63,18 @@ fn put_values(
     ensures { λ r. ⌜ Entries (badAt binary64 (record { count = count; lens = dims; starts = starts; steps = steps; linear = linear }) (now (coeffs .entry)) (now (xs .entry)) n) (valueStep binary64 (record { count = count; lens = dims; starts = starts; steps = steps; linear = linear }) (now (coeffs .entry)) (now (xs .entry)) n) n (now (out .entry)) (answerNumber r) (now (out .exit)) ⌝ }
 {
     for i in 0..n {
-        if let Answer::Refused(refusal) = put_value(count, dims, starts, steps, linear, coeffs, xs, n, i, out) {
+        if let Answer::Refused(refusal) = put_value(
+            count,
+            dims,
+            starts,
+            steps,
+            linear,
+            coeffs,
+            xs,
+            n,
+            i,
+            out,
+        ) {
             return Answer::Refused(refusal);
         }
     }
@@ -150,7 +161,18 @@ fn put_gradients(
     ensures { λ r. ⌜ Entries (badAt binary64 (record { count = count; lens = dims; starts = starts; steps = steps; linear = linear }) (now (coeffs .entry)) (now (xs .entry)) n) (gradientStep binary64 (record { count = count; lens = dims; starts = starts; steps = steps; linear = linear }) (now (coeffs .entry)) (now (xs .entry)) n) n (now (out .entry)) (answerNumber r) (now (out .exit)) ⌝ }
 {
     for i in 0..n {
-        if let Answer::Refused(refusal) = put_gradient(count, dims, starts, steps, linear, coeffs, xs, n, i, out) {
+        if let Answer::Refused(refusal) = put_gradient(
+            count,
+            dims,
+            starts,
+            steps,
+            linear,
+            coeffs,
+            xs,
+            n,
+            i,
+            out,
+        ) {
             return Answer::Refused(refusal);
         }
     }

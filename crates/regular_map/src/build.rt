@@ -113,7 +113,13 @@ fn refused(refusal: Refusal) -> Built
 }
 
 // An accepted map: entries of axes not in use are zero.
-fn accepted(count: usize, dims: [usize; 4], starts: [f64; 4], steps: [f64; 4], linear: bool) -> Built
+fn accepted(
+    count: usize,
+    dims: [usize; 4],
+    starts: [f64; 4],
+    steps: [f64; 4],
+    linear: bool,
+) -> Built
     ensures { λ r. ⌜ BuiltFrom 0 count dims starts steps linear r ⌝ }
 {
     let dims = used_lens(count, dims);

@@ -58,7 +58,14 @@ pub fn query(xs: &[f64], n: usize, i: usize, count: usize) -> [f64; 4]
 }
 
 // The first of the coefficients that count: the sum of origin times stride over the axes.
-fn first_of(count: usize, dims: [usize; 4], starts: [f64; 4], steps: [f64; 4], linear: bool, x: [f64; 4]) -> First
+fn first_of(
+    count: usize,
+    dims: [usize; 4],
+    starts: [f64; 4],
+    steps: [f64; 4],
+    linear: bool,
+    x: [f64; 4],
+) -> First
     requires { ⌜ Usable count dims ⌝ }
     ensures { λ r. ⌜ r ≡ firstOn binary64 (record { count = count; lens = dims; starts = starts; steps = steps; linear = linear }) x count ⌝ }
 {
@@ -81,7 +88,15 @@ fn first_of(count: usize, dims: [usize; 4], starts: [f64; 4], steps: [f64; 4], l
 }
 
 // The weights of axis a, or zeros where it is not in use.
-fn weights_on(count: usize, dims: [usize; 4], starts: [f64; 4], steps: [f64; 4], linear: bool, x: [f64; 4], a: usize) -> [f64; 4]
+fn weights_on(
+    count: usize,
+    dims: [usize; 4],
+    starts: [f64; 4],
+    steps: [f64; 4],
+    linear: bool,
+    x: [f64; 4],
+    a: usize,
+) -> [f64; 4]
     requires { ⌜ Usable count dims × (a < 4) ⌝ }
     ensures { λ r. ⌜ r ≡ cond (ltb a count) (weightsOn binary64 (record { count = count; lens = dims; starts = starts; steps = steps; linear = linear }) x a) zeros ⌝ }
 {
@@ -92,7 +107,15 @@ fn weights_on(count: usize, dims: [usize; 4], starts: [f64; 4], steps: [f64; 4],
 }
 
 // The slopes of axis a, or zeros where it is not in use.
-fn slopes_on(count: usize, dims: [usize; 4], starts: [f64; 4], steps: [f64; 4], linear: bool, x: [f64; 4], a: usize) -> [f64; 4]
+fn slopes_on(
+    count: usize,
+    dims: [usize; 4],
+    starts: [f64; 4],
+    steps: [f64; 4],
+    linear: bool,
+    x: [f64; 4],
+    a: usize,
+) -> [f64; 4]
     requires { ⌜ Usable count dims × (a < 4) ⌝ }
     ensures { λ r. ⌜ r ≡ cond (ltb a count) (slopesOn binary64 (record { count = count; lens = dims; starts = starts; steps = steps; linear = linear }) x a) zeros ⌝ }
 {
@@ -107,7 +130,12 @@ fn strides_of(count: usize, dims: [usize; 4]) -> [usize; 4]
     ensures { λ r. ⌜ r ≡ strides count dims ⌝ }
 {
     let shape = Shape { count, dims };
-    [shape.stride(0), shape.stride(1), shape.stride(2), shape.stride(3)]
+    [
+        shape.stride(0),
+        shape.stride(1),
+        shape.stride(2),
+        shape.stride(3),
+    ]
 }
 
 // The value from the first of the coefficients that count.

@@ -45,7 +45,15 @@ impl MultiBsplineRegular {
         let dims = self.dims;
         let starts = self.starts;
         let steps = self.steps;
-        eval::one(self.count, dims, starts, steps, self.linearize_extrapolation, coeffs, x)
+        eval::one(
+            self.count,
+            dims,
+            starts,
+            steps,
+            self.linearize_extrapolation,
+            coeffs,
+            x,
+        )
     }
 
     // The gradient at a query, with the refusals of interp_one.
@@ -55,7 +63,15 @@ impl MultiBsplineRegular {
         let dims = self.dims;
         let starts = self.starts;
         let steps = self.steps;
-        eval::one_grad(self.count, dims, starts, steps, self.linearize_extrapolation, coeffs, x)
+        eval::one_grad(
+            self.count,
+            dims,
+            starts,
+            steps,
+            self.linearize_extrapolation,
+            coeffs,
+            x,
+        )
     }
 
     // Values at a batch of queries, axis after axis: `out.len()` coordinates of axis 0, then those of axis 1, and so on. The
@@ -67,7 +83,16 @@ impl MultiBsplineRegular {
         let dims = self.dims;
         let starts = self.starts;
         let steps = self.steps;
-        batch::values(self.count, dims, starts, steps, self.linearize_extrapolation, coeffs, x, out)
+        batch::values(
+            self.count,
+            dims,
+            starts,
+            steps,
+            self.linearize_extrapolation,
+            coeffs,
+            x,
+            out,
+        )
     }
 
     // Gradients at a batch of queries, both axis after axis: of n entries, part k of entry i at k n + i. As `interp`; 2 also
@@ -78,7 +103,16 @@ impl MultiBsplineRegular {
         let dims = self.dims;
         let starts = self.starts;
         let steps = self.steps;
-        batch::gradients(self.count, dims, starts, steps, self.linearize_extrapolation, coeffs, x, out)
+        batch::gradients(
+            self.count,
+            dims,
+            starts,
+            steps,
+            self.linearize_extrapolation,
+            coeffs,
+            x,
+            out,
+        )
     }
 
     // A map from its coefficients, or the first of these refusals: 1, 2, 3 for the shape; 2, the length of `coeffs`; 5, a
@@ -93,7 +127,14 @@ impl MultiBsplineRegular {
         ensures { λ r. ⌜ BuiltFrom (mapAnswer (shape .count) (shape .dims) steps (length (now (coeffs .entry)))) (shape .count) (shape .dims) starts steps «linearize_extrapolation» r ⌝ }
     {
         let dims = shape.dims;
-        build::build(shape.count, dims, starts, steps, linearize_extrapolation, coeffs.len())
+        build::build(
+            shape.count,
+            dims,
+            starts,
+            steps,
+            linearize_extrapolation,
+            coeffs.len(),
+        )
     }
 
     // Fits the values, then builds the map. The refusals of the fit, with `coeffs` and `scratch` untouched; then 5, a step
@@ -111,6 +152,15 @@ impl MultiBsplineRegular {
         ensures { λ r. ⌜ Fitted binary64 (shape .count) (shape .dims) (now (vals .entry)) (now (coeffs .entry)) (now (scratch .entry)) (firstRefusal (regularFitChecks (shape .count) (shape .dims) (length (now (vals .entry))) (length (now (coeffs .entry))) (length (now (scratch .entry))))) (now (coeffs .exit)) (now (scratch .exit)) ⌝ }
     {
         let dims = shape.dims;
-        build::from_values(shape.count, dims, starts, steps, linearize_extrapolation, vals, coeffs, scratch)
+        build::from_values(
+            shape.count,
+            dims,
+            starts,
+            steps,
+            linearize_extrapolation,
+            vals,
+            coeffs,
+            scratch,
+        )
     }
 }

@@ -14,8 +14,8 @@ returns c =
     let w = k .before .before .before .before .before .before in
     let a = w .before .before .before .before .before .before .args in (
       built-refused _ _ _ _ _ (k .refusal .given .0 .0)
-      (values-refused (a .count) (a .dims) (a .steps) (length (now (a .vals))) (length (now (a .coeffs))) (length (now (a .scratch))) (k .refusal .given .1) (w .coefficients .ensures .answers))
-      (c .refused .ensures .0) (c .refused .ensures .1),
+          (values-refused (a .count) (a .dims) (a .steps) (length (now (a .vals))) (length (now (a .coeffs))) (length (now (a .scratch))) (k .refusal .given .1) (w .coefficients .ensures .answers))
+          (c .refused .ensures .0) (c .refused .ensures .1),
       fitted-by (w .coefficients .ensures),
     )
 
@@ -27,9 +27,9 @@ returns-2 c =
     let a = s .args in
     let kept = w .coefficients .kept .1 .1 .0 in (
       built-at _ _ _ _ _
-      (values-passed (a .count) (a .dims) (a .steps) (length (now (a .vals))) (length (now (a .coeffs))) (length (now (a .scratch))) (omega (arith, s .good)) (t .enum-told .given .1) (w .coefficients .ensures .answers)
-      ∙ ap (mapAnswer (a .count) (a .dims) (a .steps)) (sym kept))
-      (c .build .ensures),
+          (values-passed (a .count) (a .dims) (a .steps) (length (now (a .vals))) (length (now (a .coeffs))) (length (now (a .scratch))) (omega (arith, s .good)) (t .enum-told .given .1) (w .coefficients .ensures .answers)
+          ∙ ap (mapAnswer (a .count) (a .dims) (a .steps)) (sym kept))
+          (c .build .ensures),
       fitted-by (w .coefficients .ensures),
     )
 

@@ -31,7 +31,7 @@ get-loc-requires c κs =
 -- the sum with one axis more
 next : (c : tie.After-stride Inv μ)
     → let l = c .before .before .before .before .before .before in
-      Below (l .before .args .count) (l .before .args .t2) (l .loop .a + 1) (l .loop .first + c .before .before .loc .given .0 .1 .0 * c .stride .result)
+    Below (l .before .args .count) (l .before .args .t2) (l .loop .a + 1) (l .loop .first + c .before .before .loc .given .0 .1 .0 * c .stride .result)
 next c =
     let o = c .before .before in
     let g = o .before .before in
@@ -43,7 +43,7 @@ next c =
 
 small-next : (c : tie.After-stride Inv μ)
     → let l = c .before .before .before .before .before .before in
-      l .loop .first + c .before .before .loc .given .0 .1 .0 * c .stride .result ≤ 16777216
+    l .loop .first + c .before .before .loc .given .0 .1 .0 * c .stride .result ≤ 16777216
 small-next c =
     let s = c .before .before .before .before .before .before .before in
     below-small (s .args .count) (s .args .t2) (omega (arith, s .good)) (s .pre) _ _ (next c)

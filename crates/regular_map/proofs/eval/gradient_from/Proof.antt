@@ -11,8 +11,8 @@ use Rattle.regular_map.proofs.eval.gradient_from.Tie as tie
 -- what each part asks
 asked : (c : tie.After-slopes-of) (k : ℕ) → k < 4
     → let s = c .before .before .before .before in
-      let d = c .before .before .strides-of .result in
-      ((1 ≤ s .args .count) × (s .args .count ≤ 4) × (k < 4)) × (s .args .first + 3 * (getD d 0 0 + getD d 1 0 + getD d 2 0 + getD d 3 0) < length (now (s .args .coeffs)))
+    let d = c .before .before .strides-of .result in
+    ((1 ≤ s .args .count) × (s .args .count ≤ 4) × (k < 4)) × (s .args .first + 3 * (getD d 0 0 + getD d 1 0 + getD d 2 0 + getD d 3 0) < length (now (s .args .coeffs)))
 asked c k h =
     let s = c .before .before .before .before in
     ((s .pre .0 .some-axis, s .pre .0 .at-most-four, h), rw (c .before .before .strides-of .ensures) (s .pre .1 .within))

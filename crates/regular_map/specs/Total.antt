@@ -1,0 +1,45 @@
+-- Demand 1 for the calls on a regular map: when each is accepted. Which refusal is given otherwise is the first check that
+-- fails, by `firstRefusal`; `FirstFails` of shape/specs/Checks.antt says so check by check. Assumes nothing.
+use mathlib.Core.Path.{_≡_}
+use mathlib.Core.Bool.{true}
+use mathlib.Core.Logic.{_≢_, _↔_}
+use mathlib.Core.List.{List}
+use Prim.Native.Nat.{ℕ, _*_, _%_, _<_}
+use lib.ListN.{length, take, getD}
+use lib.Ieee.{Float, Format, nan, lt}
+use Rattle.shape.specs.Shape.{size}
+use Rattle.shape.specs.Usable.{Usable}
+use Rattle.multibspline.specs.Numbers.{f0}
+use Rattle.regular_weights.specs.declared.place.Loc.the-variants.{Unrepresentable}
+use Rattle.regular_map.specs.Map.{RegularMap}
+use Rattle.regular_map.specs.Eval.{locOn, query}
+use Rattle.regular_map.specs.Checks.{mapAnswer, oneAnswer, batchAnswer, gradientBatchAnswer}
+
+-- a record that is accepted: its shape, its coefficients, every step in use above zero
+pub record Sound (count : ℕ) (lens : List ℕ) (steps : List Float) (coefs : ℕ) : Type 0 where
+  pub shape : Usable count lens
+  pub sized : coefs ≡ size (take count lens)
+  pub steps-up : (a : ℕ) → a < count → lt f0 (getD steps a nan) ≡ true
+
+-- every axis in use has a representable cell for the query
+abbrev pub Representable : Format → RegularMap → List Float → Type 0
+Representable f m x = (a : ℕ) → a < m .count → locOn f m x a ≢ Unrepresentable
+
+-- building, and the checks of every call
+abbrev pub MapTotal : Type 0
+MapTotal = (count : ℕ) (lens : List ℕ) (steps : List Float) (coefs : ℕ) → length lens ≡ 4 → length steps ≡ 4
+    → (mapAnswer count lens steps coefs ≡ 0) ↔ Sound count lens steps coefs
+
+-- a single value or gradient: every query with a representable cell is answered
+abbrev pub OneTotal : Type 0
+OneTotal = (f : Format) (m : RegularMap) (coefs : ℕ) (x : List Float) → length (m .lens) ≡ 4 → length (m .steps) ≡ 4
+    → (oneAnswer f m coefs x ≡ 0) ↔ (Sound (m .count) (m .lens) (m .steps) coefs × (length x ≡ m .count) × Representable f m (query (m .count) x 1 0))
+
+-- the checks of a batch before its entries, and of a gradient batch
+abbrev pub BatchTotal : Type 0
+BatchTotal = (m : RegularMap) (coefs xs out : ℕ) → length (m .lens) ≡ 4 → length (m .steps) ≡ 4
+    → (batchAnswer m coefs xs out ≡ 0) ↔ (Sound (m .count) (m .lens) (m .steps) coefs × (xs ≡ m .count * out))
+
+abbrev pub GradientBatchTotal : Type 0
+GradientBatchTotal = (m : RegularMap) (coefs xs out : ℕ) → length (m .lens) ≡ 4 → length (m .steps) ≡ 4
+    → (gradientBatchAnswer m coefs xs out ≡ 0) ↔ (Sound (m .count) (m .lens) (m .steps) coefs × (out % m .count ≡ 0) × (xs ≡ out))
