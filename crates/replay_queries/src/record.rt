@@ -30,6 +30,70 @@ fn both(a: Compared, b: Compared) -> Compared {
     }
 }
 
+// The batch of values.
+fn replay_values(
+    text: &[u8],
+    numbers: &[u64],
+    first: usize,
+    coeffs: &[f64],
+    xs: &[f64],
+    out: &mut [f64],
+    wanted: &mut [f64],
+) -> Compared
+    requires { ⌜ length (now numbers) ≡ 22 ⌝ }
+{
+    let n = size(numbers[16]);
+    if n > out.len() {
+        return Compared::Unreadable;
+    }
+    if n > wanted.len() {
+        return Compared::Unreadable;
+    }
+    batch::values(
+        text,
+        numbers,
+        first,
+        coeffs,
+        xs,
+        &mut out[..n],
+        &mut wanted[..n],
+    )
+}
+
+// The batch of gradients, of n queries on `count` axes.
+fn replay_gradients(
+    text: &[u8],
+    numbers: &[u64],
+    count: usize,
+    n: usize,
+    first: usize,
+    coeffs: &[f64],
+    xs: &[f64],
+    out: &mut [f64],
+    wanted: &mut [f64],
+) -> Compared
+    requires { ⌜ (length (now numbers) ≡ 22) × (count ≤ 4) × (n ≤ 1024) × (first ≤ 8192) ⌝ }
+{
+    let m = size(numbers[17]);
+    if m > out.len() {
+        return Compared::Unreadable;
+    }
+    if m > wanted.len() {
+        return Compared::Unreadable;
+    }
+    batch::gradients(
+        text,
+        numbers,
+        first,
+        n,
+        count,
+        coeffs,
+        xs,
+        &mut out[..m],
+        &mut wanted[..m],
+    )
+}
+
 // The two batches. Where the record has no queries that are answered, n is 0.
 fn replay_batches(
     text: &[u8],
@@ -44,38 +108,10 @@ fn replay_batches(
 ) -> Compared
     requires { ⌜ (length (now numbers) ≡ 22) × (count ≤ 4) × (n ≤ 1024) × (first ≤ 4096) ⌝ }
 {
-    let o = size(numbers[16]);
-    let g = size(numbers[17]);
-    if o > out.len() {
-        return Compared::Unreadable;
-    }
-    if g > out.len() {
-        return Compared::Unreadable;
-    }
-    if out.len() != wanted.len() {
-        return Compared::Unreadable;
-    }
     let second = first + n;
-    let a = batch::values(
-        text,
-        numbers,
-        second,
-        coeffs,
-        xs,
-        &mut out[..o],
-        &mut wanted[..o],
-    );
-    let b = batch::gradients(
-        text,
-        numbers,
-        second + n,
-        n,
-        count,
-        coeffs,
-        xs,
-        &mut out[..g],
-        &mut wanted[..g],
-    );
+    let third = second + n;
+    let a = replay_values(text, numbers, second, coeffs, xs, out, wanted);
+    let b = replay_gradients(text, numbers, count, n, third, coeffs, xs, out, wanted);
     both(a, b)
 }
 
@@ -154,6 +190,13 @@ fn is_begun(answer: u64) -> bool {
     answer == 6
 }
 
+fn is_answered(values: u64, gradients: u64) -> bool {
+    if is_begun(values) {
+        return true;
+    }
+    is_begun(gradients)
+}
+
 fn judge_map(n: usize, compared: Compared) -> Outcome {
     match compared {
         Compared::Same => Outcome::Map(n as u64, true),
@@ -170,10 +213,12 @@ fn judge_refusal(compared: Compared) -> Outcome {
     }
 }
 
-// A record whose queries are answered, one by one: the batches, then the queries by themselves.
-fn replay_map(
+// The batches, then the queries by themselves.
+fn replay_both(
     text: &[u8],
     numbers: &[u64],
+    count: usize,
+    n: usize,
     first: usize,
     coeffs: &[f64],
     xs: &[f64],
@@ -181,23 +226,9 @@ fn replay_map(
     answers: &mut [f64],
     values: &mut [f64],
     wanted: &mut [f64],
-) -> Outcome
-    requires { ⌜ (length (now numbers) ≡ 22) × (length (now xs) ≤ 1024) × (first ≤ 4096) ⌝ }
+) -> Compared
+    requires { ⌜ (length (now numbers) ≡ 22) × (count ≤ 4) × (n ≤ 1024) × (first ≤ 4096) ⌝ }
 {
-    let count = size(numbers[0]);
-    if count == 0 {
-        return Outcome::Unreadable;
-    }
-    if count > 4 {
-        return Outcome::Unreadable;
-    }
-    let n = xs.len() / count;
-    if n > 1024 {
-        return Outcome::Unreadable;
-    }
-    if text.len() / 17 != first + n + n + xs.len() {
-        return Outcome::Unreadable;
-    }
     let a = replay_batches(text, numbers, count, n, first, coeffs, xs, out, wanted);
     let b = replay_queries(
         text,
@@ -212,7 +243,58 @@ fn replay_map(
         values,
         wanted,
     );
-    judge_map(n, both(a, b))
+    both(a, b)
+}
+
+// The axis count, or 0 where there can be no such map.
+fn axis_count(bits: u64) -> usize
+    ensures { λ r. ⌜ r ≤ 4 ⌝ }
+{
+    if bits > 4 {
+        return 0;
+    }
+    bits as usize
+}
+
+// A record whose queries are answered, one by one.
+fn replay_map(
+    text: &[u8],
+    numbers: &[u64],
+    first: usize,
+    coeffs: &[f64],
+    xs: &[f64],
+    out: &mut [f64],
+    answers: &mut [f64],
+    values: &mut [f64],
+    wanted: &mut [f64],
+) -> Outcome
+    requires { ⌜ (length (now numbers) ≡ 22) × (length (now xs) ≤ 1024) × (first ≤ 4096) ⌝ }
+{
+    let count = axis_count(numbers[0]);
+    if count == 0 {
+        return Outcome::Unreadable;
+    }
+    let n = xs.len() / count;
+    if n > 1024 {
+        return Outcome::Unreadable;
+    }
+    if text.len() / 17 != first + n + n + xs.len() {
+        return Outcome::Unreadable;
+    }
+    let a = replay_both(
+        text,
+        numbers,
+        count,
+        n,
+        first,
+        coeffs,
+        xs,
+        out,
+        answers,
+        values,
+        wanted,
+    );
+    judge_map(n, a)
 }
 
 // A record that is refused as a whole: the batches, which write nothing.
@@ -254,20 +336,7 @@ fn replay_sized(
     if !oracle_list::read_floats(text, second, xs) {
         return Outcome::Unreadable;
     }
-    if is_begun(numbers[18]) {
-        return replay_map(
-            text,
-            numbers,
-            first,
-            coeffs,
-            xs,
-            out,
-            answers,
-            values,
-            wanted,
-        );
-    }
-    if is_begun(numbers[20]) {
+    if is_answered(numbers[18], numbers[20]) {
         return replay_map(
             text,
             numbers,
