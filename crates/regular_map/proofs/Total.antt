@@ -11,7 +11,7 @@ use lib.ListN.{length, take, getD}
 use lib.Seq.{length-take-le, getD-take}
 use lib.Ieee.{Float, Format, nan, lt}
 use borrow.Author.Tests.{eq-eqb, ne-eqb, eqb-true}
-use Rattle.shape.specs.Checks.{Check, refuse, firstRefusal, lengthCheck}
+use Rattle.shape.specs.Checks.{Check, refuse, firstRefusal, lengthCheck, regularFitChecks}
 use Rattle.shape.specs.Refusal.{answerNumber}
 use Rattle.shape.specs.declared.answers.Answer.the-variants.{Accepted}
 use Rattle.shape.proofs.Lengths.{or-false}
@@ -23,9 +23,10 @@ use Rattle.regular_map.specs.declared.eval.First.{First}
 use Rattle.regular_map.specs.declared.eval.First.the-variants as First
 use Rattle.regular_map.specs.Map.{RegularMap}
 use Rattle.regular_map.specs.Eval.{locOn, firstOn, onward, isRefused, refuses, query}
-use Rattle.regular_map.specs.Checks.{anyStepBad, mapChecks, mapAnswer, oneAnswer, batchAnswer, gradientBatchAnswer}
-use Rattle.regular_map.specs.Total.{Sound, Representable, MapTotal, OneTotal, BatchTotal, GradientBatchTotal}
+use Rattle.regular_map.specs.Checks.{anyStepBad, mapChecks, mapAnswer, fromValuesAnswer, oneAnswer, batchAnswer, gradientBatchAnswer}
+use Rattle.regular_map.specs.Total.{Sound, Representable, MapTotal, FromValuesTotal, OneTotal, BatchTotal, GradientBatchTotal}
 use Rattle.regular_map.proofs.Steps.{map-steps}
+use Rattle.regular_map.proofs.Builds.{values-passed}
 use Rattle.regular_map.proofs.Answers.{map-usable, map-sized, map-passed}
 use Rattle.shape.specs.Sizes.{strideOf}
 
@@ -70,6 +71,15 @@ map-total count lens steps coefs four four′ = (there, back)
         let h′ : a < count = rw axes at h in
         rw (getD-take count steps a nan h′) (s .steps-up a h′)) in
         map-steps count lens steps coefs ok (s .sized ∙ sym (storage-is count lens ok)) refl ∙ rw good
+
+pub from-values-total : FromValuesTotal
+unfolding fromValuesAnswer
+from-values-total count lens steps samples coefs scratch four four′ = (
+  (λ e.
+      let z = prefix-passed (regularFitChecks count lens samples coefs scratch) (refuse 5 (anyStepBad (take count steps)) ∷ []) e in
+      (z, map-total count lens steps coefs four four′ .0 (sym (values-passed count lens steps samples coefs scratch four {x = Accepted} refl (sym z)) ∙ e))),
+  (λ w. values-passed count lens steps samples coefs scratch four {x = Accepted} refl (sym (w .0)) ∙ map-total count lens steps coefs four four′ .1 (w .1)),
+)
 
 -- ---- the places
 

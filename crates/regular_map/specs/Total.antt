@@ -8,12 +8,13 @@ use Prim.Native.Nat.{ℕ, _*_, _%_, _<_}
 use lib.ListN.{length, take, getD}
 use lib.Ieee.{Float, Format, nan, lt}
 use Rattle.shape.specs.Shape.{size}
+use Rattle.shape.specs.Checks.{firstRefusal, regularFitChecks}
 use Rattle.shape.specs.Usable.{Usable}
 use Rattle.multibspline.specs.Numbers.{f0}
 use Rattle.regular_weights.specs.declared.place.Loc.the-variants.{Unrepresentable}
 use Rattle.regular_map.specs.Map.{RegularMap}
 use Rattle.regular_map.specs.Eval.{locOn, query}
-use Rattle.regular_map.specs.Checks.{mapAnswer, oneAnswer, batchAnswer, gradientBatchAnswer}
+use Rattle.regular_map.specs.Checks.{mapAnswer, fromValuesAnswer, oneAnswer, batchAnswer, gradientBatchAnswer}
 
 -- a record that is accepted: its shape, its coefficients, every step in use above zero
 pub record Sound (count : ℕ) (lens : List ℕ) (steps : List Float) (coefs : ℕ) : Type 0 where
@@ -29,6 +30,12 @@ Representable f m x = (a : ℕ) → a < m .count → locOn f m x a ≢ Unreprese
 abbrev pub MapTotal : Type 0
 MapTotal = (count : ℕ) (lens : List ℕ) (steps : List Float) (coefs : ℕ) → length lens ≡ 4 → length steps ≡ 4
     → (mapAnswer count lens steps coefs ≡ 0) ↔ Sound count lens steps coefs
+
+-- building from samples: the fit is accepted, and so is the map
+abbrev pub FromValuesTotal : Type 0
+FromValuesTotal = (count : ℕ) (lens : List ℕ) (steps : List Float) (samples coefs scratch : ℕ) → length lens ≡ 4 → length steps ≡ 4
+    → (fromValuesAnswer count lens steps samples coefs scratch ≡ 0)
+    ↔ ((firstRefusal (regularFitChecks count lens samples coefs scratch) ≡ 0) × Sound count lens steps coefs)
 
 -- a single value or gradient: every query with a representable cell is answered
 abbrev pub OneTotal : Type 0
