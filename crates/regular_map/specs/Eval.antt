@@ -1,9 +1,8 @@
 -- The value and the gradient of a regular map at a query x, one coordinate an axis, each operation rounded to the format f.
 -- Assumes nothing.
-use mathlib.Core.Bool.{Bool, true, false, cond}
+use mathlib.Core.Bool.{Bool, true, false}
 use mathlib.Core.List.{List, [], _∷_}
 use Prim.Native.Nat.{ℕ, zero, suc, _+_, _*_, _<_}
-use lib.Dec.{ltb}
 use lib.ListN.{getD}
 use lib.Ieee.{Float, nan, Format}
 use Rattle.shape.specs.Sizes.{strideOf}
@@ -15,7 +14,7 @@ use Rattle.regular_weights.specs.declared.place.Loc.{Loc}
 use Rattle.regular_weights.specs.declared.place.Loc.the-variants.{At, Unrepresentable}
 use Rattle.regular_map.specs.declared.eval.First.{First}
 use Rattle.regular_map.specs.declared.eval.First.the-variants as First
-use Rattle.regular_map.specs.Map.{RegularMap}
+use Rattle.regular_map.specs.Map.{RegularMap, perAxis}
 
 abbrev pub zeros : List Float
 zeros = f0 ∷ f0 ∷ f0 ∷ f0 ∷ []
@@ -58,10 +57,7 @@ module _ (f : Format) (m : RegularMap) (x : List Float) where
 
 -- a row for each of the four axes, zeros for those not in use
 abbrev pub rows : ℕ → (ℕ → List Float) → List (List Float)
-rows count row = used 0 ∷ used 1 ∷ used 2 ∷ used 3 ∷ []
-  where
-    used : ℕ → List Float
-    used a = cond (ltb a count) (row a) zeros
+rows count row = perAxis zeros count row
 
 abbrev pub strides : ℕ → List ℕ → List ℕ
 strides count lens = strideOf count lens 0 ∷ strideOf count lens 1 ∷ strideOf count lens 2 ∷ strideOf count lens 3 ∷ []
@@ -95,10 +91,7 @@ partAt f m coefs x k = partAfter f m coefs x k (firstOn f m x (m .count))
 
 -- four parts, zeros for axes not in use
 abbrev pub parts : ℕ → (ℕ → Float) → List Float
-parts count part = used 0 ∷ used 1 ∷ used 2 ∷ used 3 ∷ []
-  where
-    used : ℕ → Float
-    used k = cond (ltb k count) (part k) f0
+parts count part = perAxis f0 count part
 
 unfoldable pub gradientAt : Format → RegularMap → List Float → List Float → List Float
 gradientAt f m coefs x = parts (m .count) (partAt f m coefs x)
@@ -113,7 +106,4 @@ refuses f m x = isRefused (firstOn f m x (m .count))
 
 -- query i of n, of coordinates that stand axis after axis; zeros for axes not in use
 unfoldable pub query : ℕ → List Float → ℕ → ℕ → List Float
-query count xs n i = coordinate 0 ∷ coordinate 1 ∷ coordinate 2 ∷ coordinate 3 ∷ []
-  where
-    coordinate : ℕ → Float
-    coordinate a = cond (ltb a count) (getD xs (a * n + i) nan) f0
+query count xs n i = perAxis f0 count (λ a. getD xs (a * n + i) nan)

@@ -24,14 +24,18 @@ pub record RegularMap : Type 0 where
 abbrev pub mapOf : MultiBsplineRegular → RegularMap
 mapOf r = record { count = r .count; lens = r .dims; starts = r .starts; steps = r .steps; linear = r .«linearize_extrapolation» }
 
--- four entries, those of axes not in use zero; o is the element read past the end of a list (never, in what is proved)
-unfoldable pub inUse : {A : Type 0} → A → A → ℕ → List A → List A
-inUse o zero count xs =
-    cond (ltb 0 count) (getD xs 0 o) zero
-    ∷ cond (ltb 1 count) (getD xs 1 o) zero
-    ∷ cond (ltb 2 count) (getD xs 2 o) zero
-    ∷ cond (ltb 3 count) (getD xs 3 o) zero
+-- four entries, one an axis: zero for axes not in use
+abbrev pub perAxis : {A : Type 0} → A → ℕ → (ℕ → A) → List A
+perAxis zero count entry =
+    cond (ltb 0 count) (entry 0) zero
+    ∷ cond (ltb 1 count) (entry 1) zero
+    ∷ cond (ltb 2 count) (entry 2) zero
+    ∷ cond (ltb 3 count) (entry 3) zero
     ∷ []
+
+-- those of a list; o is the element read past its end (never, in what is proved)
+unfoldable pub inUse : {A : Type 0} → A → A → ℕ → List A → List A
+inUse o zero count xs = perAxis zero count (λ a. getD xs a o)
 
 -- what building leaves: the map, or nothing but zeros where it is refused
 unfoldable pub built : ℕ → ℕ → List ℕ → List Float → List Float → Bool → RegularMap
