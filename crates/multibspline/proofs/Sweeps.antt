@@ -12,7 +12,7 @@ use Rattle.shape.specs.Cells.{put, from, onLine, writeLine}
 use Rattle.shape.specs.Fit.{lineScratch}
 use Rattle.shape.proofs.Cells.{put-next, put-ext, from-unique}
 use Rattle.shape.proofs.Scratch.{scratch-upper, scratch-right, scratch-one, scratch-next, scratch-over, scratch-solved}
-use Rattle.multibspline.specs.Thomas.{Row, Reduced, at, reduceAt, forward, back, backAt, backStep, solution}
+use Rattle.multibspline.specs.Thomas.{Row, Reduced, at, reduceAt, withRow, forward, back, backAt, backStep, solution}
 
 -- ---- the copy of the samples: cells below i are copied
 
@@ -50,7 +50,7 @@ module _ {f : Format} {first : Reduced} {row : ℕ → Row} {n m : ℕ} where
   elim-start s₀ h eu er = record { some = omega arith; most = omega arith; length-s = refl; rows = scratch-one m _ _ s₀ nan eu er }
 
   pub elim-step : {s₀ s s′ : List Float} {i : ℕ} → Eliminated f first row n m s₀ s i → i < n → n ≤ m → m + n ≤ length s₀
-      → s′ ≡ set (set s i (reduceAt f (row i) s m i .upper)) (m + i) (reduceAt f (row i) s m i .right)
+      → s′ ≡ withRow f m i s (row i)
       → Eliminated f first row n m s₀ s′ (i + 1)
   unfolding reduceAt
   elim-step {i = zero} e h room fits new = absurd (omega (arith, e .some))
@@ -91,6 +91,20 @@ back-here f upper right last j h =
 pub back-ext : (f : Format) (u r u′ r′ : ℕ → Float) (last : ℕ) → ((k : ℕ) → k ≤ last → u k ≡ u′ k) → ((k : ℕ) → k ≤ last → r k ≡ r′ k) → (m : ℕ) → back f u r last m ≡ back f u′ r′ last m
 back-ext f u r u′ r′ last eu er zero = er last (omega arith)
 back-ext f u r u′ r′ last eu er (suc m) = rw (eu (last - suc m) (omega arith), er (last - suc m) (omega arith), back-ext f u r u′ r′ last eu er m)
+
+-- ---- systems whose rows agree have the same reduced rows and the same solution
+
+module _ (f : Format) (n : ℕ) (first first′ : Reduced) (row row′ : ℕ → Row) (same-first : first ≡ first′) (same-row : (k : ℕ) → 0 < k → k < n → row k ≡ row′ k) where
+  pub forward-ext : (i : ℕ) → i < n → forward f first row i ≡ forward f first′ row′ i
+  forward-ext zero h = same-first
+  forward-ext (suc i) h = rw (same-row (suc i) (omega arith) h, forward-ext i (omega arith))
+
+  pub upper-ext : (i : ℕ) → i < n → forward f first row i .upper ≡ forward f first′ row′ i .upper
+  upper-ext i h = ap (λ (r : Reduced). r .upper) (forward-ext i h)
+
+  pub solution-ext : 0 < n → (i : ℕ) → solution f first row n i ≡ solution f first′ row′ n i
+  solution-ext pos i =
+      back-ext f _ _ _ _ (n - 1) (λ k h. upper-ext k (omega arith)) (λ k h. ap (λ (r : Reduced). r .right) (forward-ext k (omega arith))) (n - 1 - i)
 
 -- x(i), from what scratch holds before back substitution
 abbrev pub solved : Format → ℕ → ℕ → List Float → ℕ → Float

@@ -2,7 +2,7 @@
 -- Row i says lower · x(i-1) + diag · x(i) + upper · x(i+1) = right. Assumes nothing.
 use Prim.Native.Nat.{ℕ, zero, suc, _+_, _-_}
 use mathlib.Core.List.{List}
-use lib.ListN.{getD}
+use lib.ListN.{getD, set}
 use lib.Ieee as Ieee
 use lib.Ieee.{Float, Format, nan}
 
@@ -58,3 +58,7 @@ at scratch i = getD scratch i nan
 -- row i reduced, with the reduced row before it in scratch
 unfoldable pub reduceAt : Format → Row → List Float → ℕ → ℕ → Reduced
 reduceAt f row scratch m i = reduce f row (record { upper = at scratch (i - 1); right = at scratch (m + (i - 1)) })
+
+-- scratch with row i reduced
+abbrev pub withRow : Format → ℕ → ℕ → List Float → Row → List Float
+withRow f m i scratch row = set (set scratch i (reduceAt f row scratch m i .upper)) (m + i) (reduceAt f row scratch m i .right)

@@ -1,14 +1,16 @@
 // What both grids share: the Thomas algorithm on one line of a map. These are the inner functions of the library; a caller
-// uses `regular`. In scratch the upper numbers stand from 0 on and the right sides from m on, the length of the longest axis.
+// uses `regular` or `rectilinear`. In scratch the upper numbers stand from 0 on and the right sides from m on, the length of the longest axis.
+mod checks;
 mod saturation;
 
+pub use checks::check_line;
 pub use saturation::Saturation;
 ghost use mathlib.Core.Path.{_≡_};
 ghost use Prim.Native.Nat.{ℕ, _+_, _-_, _*_, _≤_, _<_};
 ghost use lib.ListN.{length, set};
 ghost use lib.Ieee.{binary64, nan};
 ghost use Rattle.shape.specs.Cells.{put, from, onLine, line, writeLine};
-ghost use Rattle.multibspline.specs.Thomas.{Row, at, reduceAt, backStep, backAt};
+ghost use Rattle.multibspline.specs.Thomas.{Row, at, withRow, backStep, backAt};
 
 // The samples are copied.
 pub fn copy(vals: &[f64], coeffs: &mut [f64])
@@ -48,7 +50,7 @@ pub fn eliminate(
     scratch: &mut [f64],
 )
     requires { ⌜ (0 < i) × (i < m) × (m + i < length (now scratch)) ⌝ }
-    ensures { λ _. ⌜ now (scratch .exit) ≡ set (set (now (scratch .entry)) i (reduceAt binary64 (record { lower = lower; diag = diag; upper = upper; right = right }) (now (scratch .entry)) m i .upper)) (m + i) (reduceAt binary64 (record { lower = lower; diag = diag; upper = upper; right = right }) (now (scratch .entry)) m i .right) ⌝ }
+    ensures { λ _. ⌜ now (scratch .exit) ≡ withRow binary64 m i (now (scratch .entry)) (record { lower = lower; diag = diag; upper = upper; right = right }) ⌝ }
 {
     let above = scratch[i - 1];
     let before = scratch[m + (i - 1)];

@@ -1,4 +1,4 @@
--- Demand 1 for the regular fit, and what each outcome leaves. Assumes nothing.
+-- Demand 1 for the regular fit, and what an accepted one may take for granted. Assumes nothing.
 use mathlib.Core.Path.{_≡_, refl, sym, ap, _∙_, subst}
 use mathlib.Core.Logic.{_≢_, _↔_}
 use mathlib.Core.Bool.{Bool, true, false, not, cond, _||_}
@@ -19,7 +19,6 @@ use Rattle.shape.specs.declared.answers.Answer.{Answer}
 use Rattle.shape.specs.declared.answers.Answer.the-variants.{Accepted, Refused}
 use Rattle.shape.proofs.Lengths.{or-false}
 use Rattle.shape.proofs.Accepted.{refusal-suc, long-enough, none-short}
-use Rattle.regular.specs.Fit.{regularFit, regularScratch, Fitted}
 use Rattle.regular.specs.Total.{FewAxes, LongAxes, FewPoints, FitOutcome, FitTotal, axis-count, short-axis, many-points, coefs-length, samples-length, short-scratch, accepted}
 
 is-true : (b : Bool) → (b ≡ false → ⊥) → b ≡ true
@@ -136,21 +135,6 @@ module _ (count : ℕ) (lens : List ℕ) (samples coefs scratch : ℕ) where
   pub in-range : length lens ≡ 4 → firstRefusal (regularFitChecks count lens samples coefs scratch) ≡ 0 → InRange count lens samples coefs scratch
   in-range four e = none-refused (outcome count lens samples coefs scratch four) e
 
--- ---- what `coefficients` leaves, outcome by outcome
-
-module _ (f : Format) (count : ℕ) (lens : List ℕ) (samples coefs scratch : List Float) where
-  abbrev Checked : Answer → Type 0
-  Checked x = answerNumber x ≡ firstRefusal (regularFitChecks count lens (length samples) (length coefs) (length scratch))
-
-  pub fitted-refused : {x : Answer} {r : Refusal} → x ≡ Refused r → Checked x → Fitted f count lens samples coefs scratch (refusalNumber r) coefs scratch
-  fitted-refused {x} {r} told e =
-      let some : eqb (refusalNumber r) 0 ≡ false = ne-eqb (refusalNumber r) 0 (λ z. omega (arith, refusal-suc r, z)) in
-      record { answers = sym (ap answerNumber told) ∙ e; coefficients = rw some; leaves = rw some }
-
-  module _ {x : Answer} (told : x ≡ Accepted) (e : Checked x) where
-    pub fit-range : length lens ≡ 4 → InRange count lens (length samples) (length coefs) (length scratch)
-    fit-range four = in-range count lens (length samples) (length coefs) (length scratch) four (sym e ∙ ap answerNumber told)
-
-    pub fitted-accepted : {copied coefs′ scratch′ : List Float} → copied ≡ samples → coefs′ ≡ regularFit f (take count lens) copied → scratch′ ≡ regularScratch f (take count lens) copied scratch
-        → Fitted f count lens samples coefs scratch 0 coefs′ scratch′
-    fitted-accepted same ex es = record { answers = sym (ap answerNumber told) ∙ e; coefficients = rw same at ex; leaves = rw same at es }
+  -- by the answer of the checks
+  pub fit-range : {x : Answer} → x ≡ Accepted → answerNumber x ≡ firstRefusal (regularFitChecks count lens samples coefs scratch) → length lens ≡ 4 → InRange count lens samples coefs scratch
+  fit-range told e four = in-range four (sym e ∙ ap answerNumber told)

@@ -5,11 +5,11 @@ ghost use lib.ListN.{length, take};
 ghost use lib.Ieee.{binary64, nan};
 ghost use Rattle.shape.specs.Shape.{longest, size, firstCell};
 ghost use Rattle.shape.specs.Checks.{regularFitChecks, firstRefusal};
-ghost use Rattle.shape.specs.Fit.{solveLine, solveLines, solveAxis, axisScratch, fitAfter, scratchAfter};
+ghost use Rattle.shape.specs.Fit.{solveLine, solveLines, lineLeaves, solveAxis, axisScratch, fitAfter, scratchAfter};
 ghost use Rattle.shape.specs.Usable.{Usable, LinesWithin};
 ghost use Rattle.shape.specs.Refusal.{answerNumber};
-ghost use Rattle.regular.specs.Rows.{coefficient};
-ghost use Rattle.regular.specs.Fit.{solve, upper, lineLeaves, regularFit, regularScratch, Fitted};
+ghost use Rattle.regular.specs.Rows.{coefficient, upperNumber};
+ghost use Rattle.regular.specs.Fit.{solve, upper, regularFit, regularScratch, RegularFitted};
 use crate::line::solve_checked;
 use multibspline::copy;
 use shape::Answer;
@@ -47,7 +47,7 @@ fn solve_nth(
 )
     requires { ⌜ (l < lines) × LinesWithin n s lines m (length (now coeffs)) (length (now scratch)) ⌝ }
     ensures { λ _. ⌜ now (coeffs .exit) ≡ solveLine nan (coefficient binary64 n) n s l (now (coeffs .entry)) ⌝ }
-    ensures { λ _. ⌜ now (scratch .exit) ≡ lineLeaves binary64 n s m l (now (coeffs .entry)) (now (scratch .entry)) ⌝ }
+    ensures { λ _. ⌜ now (scratch .exit) ≡ lineLeaves nan (upperNumber binary64 n) (coefficient binary64 n) n s m l (now (coeffs .entry)) (now (scratch .entry)) ⌝ }
 {
     let base = shape::first_cell_of(n, s, l);
     solve_checked(base, s, n, m, coeffs, scratch);
@@ -57,7 +57,7 @@ fn solve_nth(
 fn solve_lines(n: usize, s: usize, lines: usize, m: usize, coeffs: &mut [f64], scratch: &mut [f64])
     requires { ⌜ (0 < lines) × LinesWithin n s lines m (length (now coeffs)) (length (now scratch)) ⌝ }
     ensures { λ _. ⌜ now (coeffs .exit) ≡ solveLines nan (coefficient binary64 n) n s lines (now (coeffs .entry)) ⌝ }
-    ensures { λ _. ⌜ now (scratch .exit) ≡ lineLeaves binary64 n s m (lines - 1) (now (coeffs .entry)) (now (scratch .entry)) ⌝ }
+    ensures { λ _. ⌜ now (scratch .exit) ≡ lineLeaves nan (upperNumber binary64 n) (coefficient binary64 n) n s m (lines - 1) (now (coeffs .entry)) (now (scratch .entry)) ⌝ }
 {
     for l in 0..lines {
         solve_nth(n, s, lines, m, l, coeffs, scratch);
@@ -96,7 +96,7 @@ fn solve_axes(count: usize, dims: [usize; 4], coeffs: &mut [f64], scratch: &mut 
 // 1 to 4; 2, an axis has fewer than 4 points; 3, more than 16,777,216 points; 2, the length of `coeffs`; 2, the length of
 // `vals`; 4, the length of `scratch`.
 pub fn coefficients(shape: Shape, vals: &[f64], coeffs: &mut [f64], scratch: &mut [f64]) -> Answer
-    ensures { λ r. ⌜ Fitted binary64 (shape .count) (shape .dims) (now (vals .entry)) (now (coeffs .entry)) (now (scratch .entry)) (answerNumber r) (now (coeffs .exit)) (now (scratch .exit)) ⌝ }
+    ensures { λ r. ⌜ RegularFitted binary64 (shape .count) (shape .dims) (now (vals .entry)) (now (coeffs .entry)) (now (scratch .entry)) (answerNumber r) (now (coeffs .exit)) (now (scratch .exit)) ⌝ }
 {
     let count = shape.count;
     let dims = shape.dims;
@@ -110,7 +110,7 @@ fn fit(
     coeffs: &mut [f64],
     scratch: &mut [f64],
 ) -> Answer
-    ensures { λ r. ⌜ Fitted binary64 count dims (now (vals .entry)) (now (coeffs .entry)) (now (scratch .entry)) (answerNumber r) (now (coeffs .exit)) (now (scratch .exit)) ⌝ }
+    ensures { λ r. ⌜ RegularFitted binary64 count dims (now (vals .entry)) (now (coeffs .entry)) (now (scratch .entry)) (answerNumber r) (now (coeffs .exit)) (now (scratch .exit)) ⌝ }
 {
     let shape = Shape { count, dims };
     if let Answer::Refused(refusal) = check_fit(shape, vals.len(), coeffs.len(), scratch.len()) {

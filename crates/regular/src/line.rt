@@ -2,21 +2,20 @@
 // `stride` apart. In scratch the upper numbers stand from 0 on and the right sides from m on.
 ghost use mathlib.Core.Path.{_≡_};
 ghost use Prim.Native.Nat.{ℕ, _+_, _-_, _*_, _≤_, _<_};
-ghost use lib.Dec.{ltb};
 ghost use lib.ListN.{length, set};
 ghost use lib.Ieee.{binary64, nan};
 ghost use Rattle.shape.specs.Cells.{put, from, onLine, line, writeLine};
 ghost use Rattle.shape.specs.Fit.{lineScratch};
 ghost use Rattle.shape.specs.Refusal.{answerNumber};
-ghost use Rattle.multibspline.specs.Thomas.{at, reduceAt};
+ghost use Rattle.multibspline.specs.Thomas.{at, withRow};
 ghost use Rattle.regular.specs.Rows.{firstRow, row, reduced, upperNumber, coefficient};
 ghost use Rattle.regular.specs.Line.{LineSolved};
 use multibspline::back_substitute;
+use multibspline::check_line;
 use multibspline::copy_line;
 use multibspline::eliminate;
 use multibspline::entry;
 use shape::Answer;
-use shape::Refusal;
 
 // Row 0.
 fn first_row(base: usize, stride: usize, n: usize, m: usize, coeffs: &[f64], scratch: &mut [f64])
@@ -42,7 +41,7 @@ fn next_row(
 )
     requires { ⌜ (0 < i) × (i < n) × (onLine base stride (n - 1) < length (now coeffs)) ⌝ }
     requires { ⌜ (n ≤ m) × (m + n ≤ length (now scratch)) ⌝ }
-    ensures { λ _. ⌜ now (scratch .exit) ≡ set (set (now (scratch .entry)) i (reduceAt binary64 (row binary64 n (line nan base stride (now (coeffs .entry))) i) (now (scratch .entry)) m i .upper)) (m + i) (reduceAt binary64 (row binary64 n (line nan base stride (now (coeffs .entry))) i) (now (scratch .entry)) m i .right) ⌝ }
+    ensures { λ _. ⌜ now (scratch .exit) ≡ withRow binary64 m i (now (scratch .entry)) (row binary64 n (line nan base stride (now (coeffs .entry))) i) ⌝ }
 {
     let y = entry(base, stride, n, i, coeffs);
     if i == n - 1 {
@@ -94,17 +93,6 @@ pub fn solve_checked(
     copy_line(base, stride, n, m, scratch, coeffs);
 }
 
-// Whether the last of n entries, from `base`, `stride` apart, lies within `len`; tested by division, so that nothing overflows.
-fn ends_within(base: usize, stride: usize, n: usize, len: usize) -> bool
-    requires { ⌜ 4 ≤ n ⌝ }
-    ensures { λ r. ⌜ r ≡ ltb (onLine base stride (n - 1)) len ⌝ }
-{
-    if len <= base {
-        return false;
-    }
-    stride <= (len - 1 - base) / (n - 1)
-}
-
 // Replaces the samples of one line by its coefficients. Refuses with 2 a line of fewer than 4 points, a line that does not
 // lie within `coeffs`, and scratch without room for n upper numbers before `longest` and n right sides from there on.
 pub fn solve_line(
@@ -117,20 +105,15 @@ pub fn solve_line(
 ) -> Answer
     ensures { λ r. ⌜ LineSolved binary64 base stride n longest (now (coeffs .entry)) (now (scratch .entry)) (answerNumber r) (now (coeffs .exit)) (now (scratch .exit)) ⌝ }
 {
-    if n < 4 {
-        return Answer::Refused(Refusal::DimensionMismatch);
-    }
-    if longest < n {
-        return Answer::Refused(Refusal::DimensionMismatch);
-    }
-    if scratch.len() < longest {
-        return Answer::Refused(Refusal::DimensionMismatch);
-    }
-    if scratch.len() - longest < n {
-        return Answer::Refused(Refusal::DimensionMismatch);
-    }
-    if !ends_within(base, stride, n, coeffs.len()) {
-        return Answer::Refused(Refusal::DimensionMismatch);
+    if let Answer::Refused(refusal) = check_line(
+        base,
+        stride,
+        n,
+        longest,
+        coeffs.len(),
+        scratch.len(),
+    ) {
+        return Answer::Refused(refusal);
     }
     solve_checked(base, stride, n, longest, coeffs, scratch);
     Answer::Accepted

@@ -18,10 +18,11 @@ use Rattle.shape.specs.declared.answers.Refusal.{Refusal}
 use Rattle.shape.specs.declared.answers.Refusal.the-variants.{AxisCount, DimensionMismatch, TooManyPoints, ScratchTooSmall, NotIncreasing, Unrepresentable, NoSuchLine, AlreadySolved, NotDue}
 use Rattle.shape.specs.declared.answers.Answer.{Answer}
 use Rattle.shape.specs.declared.answers.Answer.the-variants.{Accepted, Refused}
-use Rattle.shape.specs.Checks.{Check, firstRefusal, FirstFails, none, here, later, anyShort, mostPoints, shapeChecks, shapeAccepted}
+use Rattle.shape.specs.Checks.{Check, firstRefusal, FirstFails, none, here, later, anyShort, mostPoints, shapeChecks, shapeAccepted, Positive}
 use Rattle.shape.specs.Usable.{Usable, LinesWithin}
 use Rattle.shape.specs.Sizes.{coeffStorageLen, constructionScratchLen, strideOf, linesOf}
 use Rattle.shape.proofs.Lengths.{or-false}
+use Rattle.shape.proofs.Checks.{check-passed}
 use Rattle.shape.proofs.Radix.{NotEmpty, product-pos, stride-pos, span-pos, cut, cellAt-lt}
 
 -- ---- lists of checks
@@ -71,10 +72,6 @@ pub first-refusal : (cs : List Check) (n : ℕ) → (n ≡ firstRefusal cs) ↔ 
 first-refusal cs n = ((λ e. subst (FirstFails cs) (sym e) (first-fails cs)), answer-of)
 
 -- checks that pass leave the answer to what follows them, where their numbers are above 0
-abbrev pub Positive : List Check → Type 0
-Positive [] = Unit {0}
-Positive (c ∷ cs) = (0 < c .number) × Positive cs
-
 pub passed-append : (xs ys : List Check) → Positive xs → firstRefusal xs ≡ 0 → firstRefusal (xs ++ ys) ≡ firstRefusal ys
 unfolding firstRefusal
 passed-append [] ys p e = refl
@@ -108,17 +105,13 @@ unfolding anyShort
 none-short [] h = refl
 none-short (n ∷ ns) h = rw (le-ltb n 4 (h 0 (omega arith))) (none-short ns (λ a k. h (suc a) (omega arith)))
 
--- three checks that pass
-three : (a b c : Bool) → _≡_ {A = ℕ} (cond a 1 (cond b 2 (cond c 3 0))) 0 → (a ≡ false) × (b ≡ false) × (c ≡ false)
-three true b c e = absurd (omega (arith, e))
-three false true c e = absurd (omega (arith, e))
-three false false true e = absurd (omega (arith, e))
-three false false false e = (refl, refl, refl)
-
 module _ (count : ℕ) (lens : List ℕ) where
   passed : firstRefusal (shapeChecks count lens) ≡ 0 → (eqb count 0 || ltb 4 count ≡ false) × (anyShort (take count lens) ≡ false) × (ltb mostPoints (size (take count lens)) ≡ false)
-  unfolding firstRefusal
-  passed e = three (eqb count 0 || ltb 4 count) (anyShort (take count lens)) (ltb mostPoints (size (take count lens))) e
+  passed e =
+      let a = check-passed _ 1 _ (omega arith) e in
+      let b = check-passed _ 2 _ (omega arith) (a .1) in
+      let c = check-passed _ 3 _ (omega arith) (b .1) in
+      (a .0, b .0, c .0)
 
   -- what follows the checks of an accepted shape decides
   pub accepted-append : firstRefusal (shapeChecks count lens) ≡ 0 → (ys : List Check) → firstRefusal (shapeChecks count lens ++ ys) ≡ firstRefusal ys

@@ -4,7 +4,10 @@ pub mod Scratch
 pub mod Radix
 pub mod Numbering
 pub mod BaseIndex
+pub mod Checks
 pub mod Accepted
+pub mod Fitted
 pub mod Found
 pub mod Fit
+pub mod Lines
 pub mod Loops

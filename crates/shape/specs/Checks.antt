@@ -4,7 +4,7 @@
 use mathlib.Core.Path.{_≡_}
 use mathlib.Core.Bool.{Bool, true, false, cond, not, _||_}
 use mathlib.Core.List.{List, [], _∷_, _++_}
-use Prim.Native.Nat.{ℕ, zero, suc, _*_}
+use Prim.Native.Nat.{ℕ, zero, suc, _*_, _<_}
 use lib.Dec.{eqb, ltb}
 use lib.ListN.{take}
 use Rattle.shape.specs.Shape.{longest, size}
@@ -16,6 +16,11 @@ pub record Check : Type 0 where
 
 abbrev pub refuse : ℕ → Bool → Check
 refuse number fails = record { number = number; fails = fails }
+
+-- every number is above 0, the answer of an accepted call
+abbrev pub Positive : List Check → Type 0
+Positive [] = Unit {0}
+Positive (c ∷ cs) = (0 < c .number) × Positive cs
 
 -- the number of the first check that fails; 0, accepted, where none does
 unfoldable pub firstRefusal : List Check → ℕ

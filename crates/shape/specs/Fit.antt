@@ -1,9 +1,13 @@
--- The fit of a map, axis by axis and line by line, for any way of solving a line; and what it leaves in scratch. Assumes nothing.
+-- The fit of a map, axis by axis and line by line, for any way of solving a line; what it leaves in scratch; and what a call
+-- that fits leaves. Assumes nothing.
 --     o        the element read past the end of a list (never, in what is proved)
 --     solve    coefficient i of a line from the line's samples y: `solve y i`; of a line of axis a, `solve a y i`
 --     upper    upper number i of the elimination of that line
+use mathlib.Core.Path.{_≡_}
+use mathlib.Core.Bool.{cond}
 use mathlib.Core.List.{List}
 use Prim.Native.Nat.{ℕ, zero, suc, _-_}
+use lib.Dec.{eqb}
 use lib.ListN.{length}
 use Rattle.shape.specs.Shape.{longest, points, stride, lines, firstCell, first}
 use Rattle.shape.specs.Cells.{put, from, line, writeLine}
@@ -24,6 +28,11 @@ module _ {A : Type 0} (o : A) (solve : (ℕ → A) → ℕ → A) (n s : ℕ) wh
 -- the coefficients once they are solved for; m is the length of the longest axis
 unfoldable pub lineScratch : {A : Type 0} → ℕ → (ℕ → A) → (ℕ → A) → ℕ → List A → List A
 lineScratch m upper right n scratch = put (from m) right n (put (from 0) upper n scratch)
+
+module _ {A : Type 0} (o : A) (upper solve : (ℕ → A) → ℕ → A) (n s : ℕ) where
+  -- what line l of xs leaves in scratch
+  unfoldable pub lineLeaves : ℕ → ℕ → List A → List A → List A
+  lineLeaves m l xs scratch = lineScratch m (upper (line o (firstCell n s l) s xs)) (solve (line o (firstCell n s l) s xs)) n scratch
 
 -- ---- all axes
 
@@ -48,14 +57,17 @@ module _ {A : Type 0} (o : A) (solve : ℕ → (ℕ → A) → ℕ → A) (dims 
 module _ {A : Type 0} (o : A) (upper solve : ℕ → (ℕ → A) → ℕ → A) (dims : List ℕ) where
   -- what solving axis a of xs leaves in scratch: what its last line does
   abbrev pub axisScratch : ℕ → List A → List A → List A
-  axisScratch a xs scratch =
-      lineScratch (longest dims)
-      (upper a (along o dims a (lines dims a - 1) xs))
-      (solve a (along o dims a (lines dims a - 1) xs))
-      (points dims a)
-      scratch
+  axisScratch a xs scratch = lineLeaves o (upper a) (solve a) (points dims a) (stride dims a) (longest dims) (lines dims a - 1) xs scratch
 
   -- scratch after a axes: that of each axis in turn
   unfoldable pub scratchAfter : ℕ → List A → List A → List A
   scratchAfter zero samples scratch = scratch
   scratchAfter (suc a) samples scratch = axisScratch a (fitAfter o solve dims a samples) (scratchAfter a samples scratch)
+
+-- ---- a call that fits something, a line or a map
+
+-- an accepted call leaves `fitted` in the coefficients and `left` in scratch; a refusal changes nothing
+pub record Fitted {A : Type 0} (expected : ℕ) (fitted left coefs scratch : List A) (answer : ℕ) (coefs′ scratch′ : List A) : Type 0 where
+  pub answers : answer ≡ expected
+  pub coefficients : coefs′ ≡ cond (eqb answer 0) fitted coefs
+  pub leaves : scratch′ ≡ cond (eqb answer 0) left scratch

@@ -1,11 +1,13 @@
-use mathlib.Core.Path.{_≡_, refl}
+use mathlib.Core.Path.{_≡_, refl, ap}
 use native.Mathlib.Omega.{arith}
 use denote.Ref.{now}
-use lib.ListN.{length}
-use lib.Ieee.{binary64}
+use lib.ListN.{length, take}
+use lib.Ieee.{binary64, nan}
 use borrow.Author.Needs.{needs}
 use Rattle.shape.proofs.Accepted.{AxisIs, axis-is, axis-within}
-use Rattle.regular.proofs.Loops.{axis-coefs, axis-scratch}
+use Rattle.shape.proofs.Lines.{axis-coefs, axis-scratch}
+use Rattle.regular.specs.Rows.{coefficient, upperNumber}
+use Rattle.regular.specs.Fit.{solve, upper}
 use Rattle.regular.proofs.fit.solve_axis.Statement.{statement}
 use Rattle.regular.proofs.fit.solve_axis.Tie as tie
 
@@ -28,9 +30,11 @@ returns c =
     let s = l .before in
     let t = s .before .before .before in
     let a = t .args in
-    let x = axis-is (a .count) (a .t2) (omega (arith, t .good)) (t .pre .0 .1) (a .axis) (t .pre .0 .0) refl (s .stride .ensures) (l .lines .ensures) (m .longest .ensures) in (
-      axis-coefs binary64 (a .count) (a .t2) (a .axis) _ _ _ _ x (now (a .coeffs)) (now (a .scratch)) (w .solve-lines .ensures .0),
-      axis-scratch binary64 (a .count) (a .t2) (a .axis) _ _ _ _ x (now (a .coeffs)) (now (a .scratch)) (w .solve-lines .ensures .1),
+    let x = axis-is (a .count) (a .t2) (omega (arith, t .good)) (t .pre .0 .1) (a .axis) (t .pre .0 .0) refl (s .stride .ensures) (l .lines .ensures) (m .longest .ensures) in
+    let eu = ap (upperNumber binary64) (x .the-points) in
+    let ev = ap (coefficient binary64) (x .the-points) in (
+      axis-coefs nan (upper binary64 (take (a .count) (a .t2))) (solve binary64 (take (a .count) (a .t2))) (a .count) (a .t2) (a .axis) _ _ _ _ x eu ev (now (a .coeffs)) (now (a .scratch)) (w .solve-lines .ensures .0),
+      axis-scratch nan (upper binary64 (take (a .count) (a .t2))) (solve binary64 (take (a .count) (a .t2))) (a .count) (a .t2) (a .axis) _ _ _ _ x eu ev (now (a .coeffs)) (now (a .scratch)) (w .solve-lines .ensures .1),
     )
 
 pub solve-axis-spec : {M : Type 1} → statement M

@@ -1,7 +1,8 @@
 use denote.Ref.{now}
-use lib.Ieee.{binary64}
+use lib.Ieee.{binary64, nan}
 use borrow.Author.Needs.{needs}
-use Rattle.regular.proofs.Loops.{first-cell-room, line-room, nth-coefs, nth-scratch}
+use Rattle.shape.proofs.Lines.{first-cell-room, line-room, nth-coefs, nth-scratch}
+use Rattle.regular.specs.Rows.{coefficient, upperNumber}
 use Rattle.regular.proofs.fit.solve_nth.Statement.{statement}
 use Rattle.regular.proofs.fit.solve_nth.Tie as tie
 
@@ -19,8 +20,8 @@ returns c =
     let w = c .before .before .before .before in
     let b = w .before .before .before in
     let a = b .before .before .before .args in (
-      nth-coefs binary64 (a .n) (a .s) (a .m) (a .l) _ (now (a .coeffs)) (now (a .scratch)) (b .first-cell-of .ensures) (w .solve-checked .ensures .0),
-      nth-scratch binary64 (a .n) (a .s) (a .m) (a .l) _ (now (a .coeffs)) (now (a .scratch)) (b .first-cell-of .ensures) (w .solve-checked .ensures .1),
+      nth-coefs nan (upperNumber binary64 (a .n)) (coefficient binary64 (a .n)) (a .n) (a .s) (a .m) (a .l) _ (now (a .coeffs)) (now (a .scratch)) (b .first-cell-of .ensures) (w .solve-checked .ensures .0),
+      nth-scratch nan (upperNumber binary64 (a .n)) (coefficient binary64 (a .n)) (a .n) (a .s) (a .m) (a .l) _ (now (a .coeffs)) (now (a .scratch)) (b .first-cell-of .ensures) (w .solve-checked .ensures .1),
     )
 
 pub solve-nth-spec : {M : Type 1} → statement M

@@ -1,37 +1,29 @@
-use mathlib.Core.Path.{sym, _∙_}
-use native.Mathlib.Omega.{arith}
 use borrow.Author.Needs.{needs}
-use borrow.Author.Tests.{ltb-true, not-true, not-false}
-use Rattle.regular.proofs.Checks.{line-short, no-uppers, no-rights, no-line, line-solved}
+use denote.Ref.{now}
+use lib.ListN.{length}
+use Rattle.shape.proofs.Fitted.{fitted-refused, fitted-accepted}
+use Rattle.multibspline.proofs.Line.{line-fits}
 use Rattle.regular.proofs.line.solve_line.Statement.{statement}
 use Rattle.regular.proofs.line.solve_line.Tie as tie
 
-returns-3 : tie.Need-returns-3
-returns-3 c = no-rights (c .before .before .if1 .left) (c .before .if2 .left) (omega arith)
-
-returns-4 : tie.Need-returns-4
-returns-4 c = no-rights (c .before .before .before .if1 .left) (c .before .before .if2 .left) (omega arith)
-
-returns-5 : tie.Need-returns-5
-returns-5 c =
-    let t = c .before .before .before .before in
-    no-line (t .before .if1 .left) (t .if2 .left) (omega arith) (sym (c .before .ends-within .ensures) ∙ not-true _ (c .if5 .taken))
+returns : tie.Need-returns
+returns c = fitted-refused (c .before .refusal .given .1) (c .before .before .before .check-line .ensures)
 
 solve-checked-requires : tie.Need-solve-checked-requires
 solve-checked-requires c κs =
-    let ends = c .before .before .before in
-    ((search needs, ltb-true _ _ (sym (ends .ends-within .ensures) ∙ not-false _ (c .before .before .if5 .left))), search needs)
+    let t = c .before .before in
+    let w = t .before .before in
+    let a = w .before .before .before .args in
+    line-fits (a .base) (a .stride) (a .n) (a .longest) (length (now (a .coeffs))) (length (now (a .scratch))) (t .enum-told .given .1) (w .check-line .ensures)
 
-returns-6 : tie.Need-returns-6
-returns-6 c =
-    let call = c .before .before .before .before in
-    let test = call .before .before .before in
-    let t = test .before .before .before .before in
-    line-solved (t .before .if1 .left) (t .if2 .left) (omega arith) (sym (test .before .ends-within .ensures) ∙ not-false _ (test .if5 .left))
-    (call .solve-checked .ensures .0) (call .solve-checked .ensures .1)
+returns-2 : tie.Need-returns-2
+returns-2 c =
+    let v = c .before .before .before .before in
+    let t = v .before .before .before in
+    let w = t .before .before in
+    fitted-accepted (t .enum-told .given .1) (w .check-line .ensures) (v .solve-checked .ensures .0) (v .solve-checked .ensures .1)
 
 pub solve-line-spec : {M : Type 1} → statement M
 solve-line-spec =
     tie.close
-    (tie.spec (λ c. line-short (c .if1 .taken)) (λ c. no-uppers (c .before .if1 .left) (c .if2 .taken)) returns-3 (λ c. search needs) returns-4 (λ c κs. search needs) returns-5 solve-checked-requires
-    (λ c. search needs) (λ c. search needs) returns-6)
+    (tie.spec (λ c κs. search needs) (λ c. search needs) returns (λ c. search needs) solve-checked-requires (λ c. search needs) (λ c. search needs) returns-2)

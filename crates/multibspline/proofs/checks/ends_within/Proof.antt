@@ -1,7 +1,7 @@
 use borrow.Author.Needs.{needs}
-use Rattle.regular.proofs.Checks.{ends, starts-past}
-use Rattle.regular.proofs.line.ends_within.Statement.{statement}
-use Rattle.regular.proofs.line.ends_within.Tie as tie
+use Rattle.multibspline.proofs.Line.{ends, starts-past}
+use Rattle.multibspline.proofs.checks.ends_within.Statement.{statement}
+use Rattle.multibspline.proofs.checks.ends_within.Tie as tie
 
 pub ends-within-spec : {M : Type 1} → statement M
 ends-within-spec =
