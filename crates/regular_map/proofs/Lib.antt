@@ -1,9 +1,5 @@
 pub mod Rows
 pub mod Steps
-pub mod Query
 pub mod Places
-pub mod Answers
-pub mod Batches
 pub mod Builds
 pub mod Total
-pub mod Points

@@ -1,5 +1,5 @@
 -- The rows of weights and slopes, by the place that was found. For every format. Assumes nothing.
-use mathlib.Core.Path.{_≡_, refl, sym, ap, _∙_}
+use mathlib.Core.Path.{_≡_, sym, _∙_}
 use mathlib.Core.Bool.{Bool}
 use mathlib.Core.List.{List}
 use Prim.Native.Nat.{ℕ}
@@ -9,7 +9,8 @@ use Rattle.regular_weights.specs.Place.{pastOrigin}
 use Rattle.regular_weights.specs.Weights.{interpWeights, interpWeightDerivatives}
 use Rattle.regular_weights.specs.declared.place.Loc.{Loc}
 use Rattle.regular_weights.specs.declared.place.Loc.the-variants.{At, Unrepresentable}
-use Rattle.regular_map.specs.Eval.{zeros, weightsAt, slopesAt}
+use Rattle.evaluation.specs.Axes.{zeros}
+use Rattle.regular_map.specs.Eval.{weightsAt, slopesAt}
 
 module _ (f : Format) (start step x : Float) (linear : Bool) {found loc : Loc} (same : found ≡ loc) where
   pub weights-found : {sat : Saturation} {origin : ℕ} {t : Float} {r : List Float} → found ≡ At sat origin → t ≡ pastOrigin f start step x origin

@@ -2,23 +2,25 @@
 use mathlib.Core.Path.{_≡_, refl, sym, ap, _∙_}
 use mathlib.Core.Bool.{Bool, true, false, cond, not, _||_}
 use mathlib.Core.List.{List, [], _∷_, _++_}
-use Prim.Native.Nat.{ℕ, _+_, _*_, _≤_, _<_}
+use Prim.Native.Nat.{ℕ, _+_, _≤_, _<_}
 use native.Mathlib.Numerals.{add-one}
+use native.Mathlib.Omega.{arith}
 use lib.Dec.{eqb}
 use lib.ListN.{length, take, drop, getD, drop-of-length-le}
 use lib.Seq.{slice-cons, length-take-le}
 use lib.Ieee.{Float, nan, lt}
-use borrow.Author.Tests.{eq-eqb, ne-eqb}
+use borrow.Author.Tests.{eq-eqb, ne-eqb, eqb-true}
 use Rattle.shape.specs.Shape.{size}
-use Rattle.shape.specs.Checks.{Check, refuse, firstRefusal, shapeChecks, lengthCheck}
+use Rattle.shape.specs.Checks.{refuse, firstRefusal, shapeChecks, lengthCheck, Positive}
 use Rattle.shape.specs.Refusal.{refusalNumber, answerNumber}
 use Rattle.shape.specs.Sizes.{coeffStorageLen}
+use Rattle.shape.specs.Usable.{Usable}
 use Rattle.shape.specs.declared.answers.Refusal.{Refusal}
 use Rattle.shape.specs.declared.answers.Answer.{Answer}
 use Rattle.shape.specs.declared.answers.Answer.the-variants.{Accepted, Refused}
-use Rattle.shape.proofs.Accepted.{refusal-append, accepted-append, storage-is}
+use Rattle.shape.proofs.Accepted.{refusal-append, accepted-append, prefix-passed, usable, storage-is}
 use Rattle.multibspline.specs.Numbers.{f0}
-use Rattle.regular_map.specs.Checks.{anyStepBad, mapAnswer}
+use Rattle.regular_map.specs.Checks.{anyStepBad, mapChecks, mapAnswer}
 
 -- the steps from i on, of the first k: one more, and none
 module _ (steps : List Float) (k i : ℕ) (h : k ≤ length steps) where
@@ -48,3 +50,29 @@ module _ (count : ℕ) (lens : List ℕ) (steps : List Float) (coefs : ℕ) wher
     pub map-steps : {b : Bool} → coefs ≡ coeffStorageLen count lens → b ≡ anyStepBad (take count steps) → mapAnswer count lens steps coefs ≡ cond b 5 0
     unfolding firstRefusal
     map-steps same e = rw (after, eq-eqb coefs (size (take count lens)) (same ∙ storage-is count lens ok), ← e)
+
+-- ---- what an answer of the checks gives
+
+module _ (count : ℕ) (lens : List ℕ) (steps : List Float) (coefs : ℕ) where
+  -- their numbers are above 0
+  pub map-numbered : Positive (mapChecks count lens steps coefs)
+  map-numbered = (omega arith, (omega arith, (omega arith, (omega arith, (omega arith, tt)))))
+
+  module _ {x : Answer} (told : x ≡ Accepted) (e : answerNumber x ≡ mapAnswer count lens steps coefs) where
+    passes : firstRefusal (mapChecks count lens steps coefs) ≡ 0
+    unfolding mapAnswer
+    passes = sym e ∙ ap answerNumber told
+
+    shape-passed : firstRefusal (shapeChecks count lens) ≡ 0
+    shape-passed = prefix-passed (shapeChecks count lens) (lengthCheck (size (take count lens)) coefs ++ refuse 5 (anyStepBad (take count steps)) ∷ []) passes
+
+    pub map-usable : length lens ≡ 4 → Usable count lens
+    map-usable four = usable count lens four shape-passed
+
+    pub map-sized : coefs ≡ size (take count lens)
+    unfolding firstRefusal
+    map-sized = go (eqb coefs (size (take count lens))) refl (sym (accepted-append count lens shape-passed (lengthCheck (size (take count lens)) coefs ++ refuse 5 (anyStepBad (take count steps)) ∷ [])) ∙ passes)
+      where
+        go : (b : Bool) → eqb coefs (size (take count lens)) ≡ b → _≡_ {A = ℕ} (cond (not b) 2 (cond (anyStepBad (take count steps)) 5 0)) 0 → coefs ≡ size (take count lens)
+        go true h z = eqb-true coefs (size (take count lens)) h
+        go false h z = absurd (omega (arith, z))

@@ -1,34 +1,32 @@
 -- Demand 1 for the calls on a regular map. Assumes nothing.
-use mathlib.Core.Path.{_≡_, refl, sym, ap, _∙_}
+use mathlib.Core.Path.{_≡_, refl, sym, _∙_}
 use mathlib.Core.Logic.{_≢_, _↔_, _⊎_, inl, inr}
-use mathlib.Core.Bool.{Bool, true, false, cond, not, _||_}
-use mathlib.Core.List.{List, [], _∷_, _++_}
-use Prim.Native.Nat.{ℕ, zero, suc, _*_, _%_, _≤_, _<_}
+use mathlib.Core.Bool.{Bool, true, false, cond, not}
+use mathlib.Core.List.{List, [], _∷_}
+use Prim.Native.Nat.{ℕ, zero, suc, _<_}
 use native.Mathlib.Nat.{eq-or-lt-of-le, le-of-suc-le-suc, not-suc-le-zero}
 use native.Mathlib.Omega.{arith}
-use lib.Dec.{eqb}
 use lib.ListN.{length, take, getD}
 use lib.Seq.{length-take-le, getD-take}
 use lib.Ieee.{Float, Format, nan, lt}
-use borrow.Author.Tests.{eq-eqb, ne-eqb, eqb-true}
-use Rattle.shape.specs.Checks.{Check, refuse, firstRefusal, lengthCheck, regularFitChecks}
-use Rattle.shape.specs.Refusal.{answerNumber}
+use Rattle.shape.specs.Checks.{refuse, firstRefusal, regularFitChecks, Positive}
+use Rattle.shape.specs.Sizes.{strideOf}
 use Rattle.shape.specs.declared.answers.Answer.the-variants.{Accepted}
 use Rattle.shape.proofs.Lengths.{or-false}
 use Rattle.shape.proofs.Accepted.{prefix-passed, usable-accepted, storage-is}
 use Rattle.multibspline.specs.Numbers.{f0}
 use Rattle.regular_weights.specs.declared.place.Loc.{Loc}
 use Rattle.regular_weights.specs.declared.place.Loc.the-variants as Loc
+use Rattle.evaluation.specs.Axes.{query}
+use Rattle.evaluation.proofs.Total as Evaluation
 use Rattle.regular_map.specs.declared.eval.First.{First}
 use Rattle.regular_map.specs.declared.eval.First.the-variants as First
 use Rattle.regular_map.specs.Map.{RegularMap}
-use Rattle.regular_map.specs.Eval.{locOn, firstOn, onward, isRefused, refuses, query}
-use Rattle.regular_map.specs.Checks.{anyStepBad, mapChecks, mapAnswer, fromValuesAnswer, oneAnswer, batchAnswer, gradientBatchAnswer}
+use Rattle.regular_map.specs.Eval.{locOn, firstOn, onward, isRefused, refuses}
+use Rattle.regular_map.specs.Checks.{anyStepBad, mapChecks, mapAnswer, fromValuesAnswer, regular}
 use Rattle.regular_map.specs.Total.{Sound, Representable, MapTotal, FromValuesTotal, OneTotal, BatchTotal, GradientBatchTotal}
-use Rattle.regular_map.proofs.Steps.{map-steps}
+use Rattle.regular_map.proofs.Steps.{map-steps, map-numbered, map-usable, map-sized}
 use Rattle.regular_map.proofs.Builds.{values-passed}
-use Rattle.regular_map.proofs.Answers.{map-usable, map-sized, map-passed}
-use Rattle.shape.specs.Sizes.{strideOf}
 
 -- ---- the steps
 
@@ -113,54 +111,31 @@ module _ (f : Format) (m : RegularMap) (x : List Float) where
   unfolding refuses
   representable = (each (m .count), all (m .count))
 
--- ---- what follows the checks of the map
+-- ---- the calls that evaluate: the checks of the map, and its queries
 
-two : (b : Bool) (n : ℕ) → cond (not b) 2 n ≡ 0 → (b ≡ true) × (n ≡ 0)
-two true n e = (refl, e)
-two false n e = absurd (omega (arith, e))
-
-six : (b : Bool) → _≡_ {A = ℕ} (cond b 6 0) 0 → b ≡ false
-six true e = absurd (omega (arith, e))
-six false e = refl
-
-module _ (m : RegularMap) (coefs : ℕ) (four : length (m .lens) ≡ 4) (four′ : length (m .steps) ≡ 4) (ys : List Check) where
-  -- all pass: those of the map, and the others
-  split : firstRefusal (mapChecks (m .count) (m .lens) (m .steps) coefs ++ ys) ≡ 0 → Sound (m .count) (m .lens) (m .steps) coefs × (firstRefusal ys ≡ 0)
+module _ (f : Format) (m : RegularMap) (coefs : List Float) (four : length (m .lens) ≡ 4) (four′ : length (m .steps) ≡ 4) where
+  sound : (firstRefusal (mapChecks (m .count) (m .lens) (m .steps) (length coefs)) ≡ 0) ↔ Sound (m .count) (m .lens) (m .steps) (length coefs)
   unfolding mapAnswer
-  split e =
-      let z = prefix-passed (mapChecks (m .count) (m .lens) (m .steps) coefs) ys e in
-      (map-total (m .count) (m .lens) (m .steps) coefs four four′ .0 z, sym (map-passed (m .count) (m .lens) (m .steps) coefs {x = Accepted} refl (sym z) ys) ∙ e)
+  sound = map-total (m .count) (m .lens) (m .steps) (length coefs) four four′
 
-  join : Sound (m .count) (m .lens) (m .steps) coefs → firstRefusal ys ≡ 0 → firstRefusal (mapChecks (m .count) (m .lens) (m .steps) coefs ++ ys) ≡ 0
-  join s e = map-passed (m .count) (m .lens) (m .steps) coefs {x = Accepted} refl (sym (map-total (m .count) (m .lens) (m .steps) coefs four four′ .1 s)) ys ∙ e
+  numbered : Positive (regular f m coefs .checks)
+  numbered = map-numbered (m .count) (m .lens) (m .steps) (length coefs)
 
 pub one-total : OneTotal
-unfolding oneAnswer firstRefusal
-one-total f m coefs x four four′ = (
-  (λ e.
-      let s = split m coefs four four′ (lengthCheck (m .count) (length x) ++ refuse 6 (refuses f m (query (m .count) x 1 0)) ∷ []) e in
-      let t = two (eqb (length x) (m .count)) _ (s .1) in
-      (s .0, eqb-true (length x) (m .count) (t .0), representable f m (query (m .count) x 1 0) .0 (six (refuses f m (query (m .count) x 1 0)) (t .1)))),
-  (λ w.
-      let no = representable f m (query (m .count) x 1 0) .1 (w .2) in
-      join m coefs four four′ (lengthCheck (m .count) (length x) ++ refuse 6 (refuses f m (query (m .count) x 1 0)) ∷ []) (w .0) (rw (eq-eqb (length x) (m .count) (w .1), no))),
-)
+one-total f m coefs x four four′ =
+    let all = Evaluation.one-total (regular f m coefs) (numbered f m coefs four four′) x in
+    let s = sound f m coefs four four′ in
+    let r = representable f m (query (m .count) x 1 0) in
+    ((λ e. let w = all .0 e in (s .0 (w .0), w .1, r .0 (w .2))), (λ w. all .1 (s .1 (w .0), w .1, r .1 (w .2))))
 
 pub batch-total : BatchTotal
-unfolding batchAnswer firstRefusal
-batch-total m coefs xs out four four′ = (
-  (λ e.
-      let s = split m coefs four four′ (lengthCheck (m .count * out) xs) e in
-      (s .0, eqb-true xs (m .count * out) (two (eqb xs (m .count * out)) 0 (s .1) .0))),
-  (λ w. join m coefs four four′ (lengthCheck (m .count * out) xs) (w .0) (rw (eq-eqb xs (m .count * out) (w .1)))),
-)
+batch-total f m coefs xs out four four′ =
+    let all = Evaluation.batch-total (regular f m coefs) (numbered f m coefs four four′) xs out in
+    let s = sound f m coefs four four′ in
+    ((λ e. let w = all .0 e in (s .0 (w .0), w .1)), (λ w. all .1 (s .1 (w .0), w .1)))
 
 pub gradient-batch-total : GradientBatchTotal
-unfolding gradientBatchAnswer firstRefusal
-gradient-batch-total m coefs xs out four four′ = (
-  (λ e.
-      let s = split m coefs four four′ (refuse 2 (not (eqb (out % m .count) 0)) ∷ lengthCheck out xs) e in
-      let t = two (eqb (out % m .count) 0) _ (s .1) in
-      (s .0, eqb-true (out % m .count) 0 (t .0), eqb-true xs out (two (eqb xs out) 0 (t .1) .0))),
-  (λ w. join m coefs four four′ (refuse 2 (not (eqb (out % m .count) 0)) ∷ lengthCheck out xs) (w .0) (rw (eq-eqb (out % m .count) 0 (w .1), eq-eqb xs out (w .2)))),
-)
+gradient-batch-total f m coefs xs out four four′ =
+    let all = Evaluation.gradient-batch-total (regular f m coefs) (numbered f m coefs four four′) xs out in
+    let s = sound f m coefs four four′ in
+    ((λ e. let w = all .0 e in (s .0 (w .0), w .1, w .2)), (λ w. all .1 (s .1 (w .0), w .1, w .2)))

@@ -1,23 +1,20 @@
 -- The value and the gradient of a regular map at a query x, one coordinate an axis, each operation rounded to the format f.
 -- Assumes nothing.
 use mathlib.Core.Bool.{Bool, true, false}
-use mathlib.Core.List.{List, [], _∷_}
-use Prim.Native.Nat.{ℕ, zero, suc, _+_, _*_, _<_}
+use mathlib.Core.List.{List}
+use Prim.Native.Nat.{ℕ, zero, suc, _+_, _*_}
 use lib.ListN.{getD}
 use lib.Ieee.{Float, nan, Format}
 use Rattle.shape.specs.Sizes.{strideOf}
 use Rattle.multibspline.specs.Numbers.{f0}
-use Rattle.interp_math.specs.Sum.{summed, gradientPart}
 use Rattle.regular_weights.specs.Place.{getLoc, pastOrigin}
 use Rattle.regular_weights.specs.Weights.{interpWeights, interpWeightDerivatives}
 use Rattle.regular_weights.specs.declared.place.Loc.{Loc}
 use Rattle.regular_weights.specs.declared.place.Loc.the-variants.{At, Unrepresentable}
+use Rattle.evaluation.specs.Axes.{zeros, rows, valueFrom, gradientFrom}
 use Rattle.regular_map.specs.declared.eval.First.{First}
 use Rattle.regular_map.specs.declared.eval.First.the-variants as First
-use Rattle.regular_map.specs.Map.{RegularMap, perAxis}
-
-abbrev pub zeros : List Float
-zeros = f0 ∷ f0 ∷ f0 ∷ f0 ∷ []
+use Rattle.regular_map.specs.Map.{RegularMap}
 
 -- ---- one axis: n points, `start`, `step`, the flag, the coordinate x
 
@@ -55,32 +52,13 @@ module _ (f : Format) (m : RegularMap) (x : List Float) where
   unfoldable pub slopesOn : ℕ → List Float
   slopesOn a = slopesAt f (getD (m .starts) a nan) (getD (m .steps) a nan) (m .linear) (getD x a nan) (locOn a)
 
--- a row for each of the four axes, zeros for those not in use
-abbrev pub rows : ℕ → (ℕ → List Float) → List (List Float)
-rows count row = perAxis zeros count row
-
-abbrev pub strides : ℕ → List ℕ → List ℕ
-strides count lens = strideOf count lens 0 ∷ strideOf count lens 1 ∷ strideOf count lens 2 ∷ strideOf count lens 3 ∷ []
-
--- the coefficients from `first` on that count lie within `coefs`
-pub record Reaches (count : ℕ) (lens : List ℕ) (first coefs : ℕ) : Type 0 where
-  pub within : first + 3 * (strideOf count lens 0 + strideOf count lens 1 + strideOf count lens 2 + strideOf count lens 3) < coefs
-
--- from the first coefficient: the value, and part k of the gradient
-unfoldable pub valueFrom : Format → RegularMap → List Float → List Float → ℕ → Float
-valueFrom f m coefs x first = summed f coefs (strides (m .count) (m .lens)) (rows (m .count) (weightsOn f m x)) (m .count) first
-
-unfoldable pub gradientFrom : Format → RegularMap → List Float → List Float → ℕ → ℕ → Float
-gradientFrom f m coefs x first k =
-    gradientPart f coefs (strides (m .count) (m .lens)) (rows (m .count) (weightsOn f m x)) (rows (m .count) (slopesOn f m x)) (m .count) first k
-
 -- at the query: zero where it is refused
 abbrev pub valueAfter : Format → RegularMap → List Float → List Float → First → Float
-valueAfter f m coefs x (First.At first) = valueFrom f m coefs x first
+valueAfter f m coefs x (First.At first) = valueFrom f (m .count) (m .lens) coefs (rows (m .count) (weightsOn f m x)) first
 valueAfter f m coefs x First.Unrepresentable = f0
 
 abbrev pub partAfter : Format → RegularMap → List Float → List Float → ℕ → First → Float
-partAfter f m coefs x k (First.At first) = gradientFrom f m coefs x first k
+partAfter f m coefs x k (First.At first) = gradientFrom f (m .count) (m .lens) coefs (rows (m .count) (weightsOn f m x)) (rows (m .count) (slopesOn f m x)) first k
 partAfter f m coefs x k First.Unrepresentable = f0
 
 unfoldable pub valueAt : Format → RegularMap → List Float → List Float → Float
@@ -89,13 +67,6 @@ valueAt f m coefs x = valueAfter f m coefs x (firstOn f m x (m .count))
 unfoldable pub partAt : Format → RegularMap → List Float → List Float → ℕ → Float
 partAt f m coefs x k = partAfter f m coefs x k (firstOn f m x (m .count))
 
--- four parts, zeros for axes not in use
-abbrev pub parts : ℕ → (ℕ → Float) → List Float
-parts count part = perAxis f0 count part
-
-unfoldable pub gradientAt : Format → RegularMap → List Float → List Float → List Float
-gradientAt f m coefs x = parts (m .count) (partAt f m coefs x)
-
 -- does some axis refuse the query?
 abbrev pub isRefused : First → Bool
 isRefused (First.At first) = false
@@ -103,7 +74,3 @@ isRefused First.Unrepresentable = true
 
 unfoldable pub refuses : Format → RegularMap → List Float → Bool
 refuses f m x = isRefused (firstOn f m x (m .count))
-
--- query i of n, of coordinates that stand axis after axis; zeros for axes not in use
-unfoldable pub query : ℕ → List Float → ℕ → ℕ → List Float
-query count xs n i = perAxis f0 count (λ a. getD xs (a * n + i) nan)

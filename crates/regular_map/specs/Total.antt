@@ -12,9 +12,11 @@ use Rattle.shape.specs.Checks.{firstRefusal, regularFitChecks}
 use Rattle.shape.specs.Usable.{Usable}
 use Rattle.multibspline.specs.Numbers.{f0}
 use Rattle.regular_weights.specs.declared.place.Loc.the-variants.{Unrepresentable}
+use Rattle.evaluation.specs.Axes.{query}
+use Rattle.evaluation.specs.Spline.{oneAnswer, batchAnswer, gradientBatchAnswer}
 use Rattle.regular_map.specs.Map.{RegularMap}
-use Rattle.regular_map.specs.Eval.{locOn, query}
-use Rattle.regular_map.specs.Checks.{mapAnswer, fromValuesAnswer, oneAnswer, batchAnswer, gradientBatchAnswer}
+use Rattle.regular_map.specs.Eval.{locOn}
+use Rattle.regular_map.specs.Checks.{mapAnswer, fromValuesAnswer, regular}
 
 -- a record that is accepted: its shape, its coefficients, every step in use above zero
 pub record Sound (count : ℕ) (lens : List ℕ) (steps : List Float) (coefs : ℕ) : Type 0 where
@@ -39,14 +41,14 @@ FromValuesTotal = (count : ℕ) (lens : List ℕ) (steps : List Float) (samples 
 
 -- a single value or gradient: every query with a representable cell is answered
 abbrev pub OneTotal : Type 0
-OneTotal = (f : Format) (m : RegularMap) (coefs : ℕ) (x : List Float) → length (m .lens) ≡ 4 → length (m .steps) ≡ 4
-    → (oneAnswer f m coefs x ≡ 0) ↔ (Sound (m .count) (m .lens) (m .steps) coefs × (length x ≡ m .count) × Representable f m (query (m .count) x 1 0))
+OneTotal = (f : Format) (m : RegularMap) (coefs x : List Float) → length (m .lens) ≡ 4 → length (m .steps) ≡ 4
+    → (oneAnswer (regular f m coefs) x ≡ 0) ↔ (Sound (m .count) (m .lens) (m .steps) (length coefs) × (length x ≡ m .count) × Representable f m (query (m .count) x 1 0))
 
 -- the checks of a batch before its entries, and of a gradient batch
 abbrev pub BatchTotal : Type 0
-BatchTotal = (m : RegularMap) (coefs xs out : ℕ) → length (m .lens) ≡ 4 → length (m .steps) ≡ 4
-    → (batchAnswer m coefs xs out ≡ 0) ↔ (Sound (m .count) (m .lens) (m .steps) coefs × (xs ≡ m .count * out))
+BatchTotal = (f : Format) (m : RegularMap) (coefs : List Float) (xs out : ℕ) → length (m .lens) ≡ 4 → length (m .steps) ≡ 4
+    → (batchAnswer (regular f m coefs) xs out ≡ 0) ↔ (Sound (m .count) (m .lens) (m .steps) (length coefs) × (xs ≡ m .count * out))
 
 abbrev pub GradientBatchTotal : Type 0
-GradientBatchTotal = (m : RegularMap) (coefs xs out : ℕ) → length (m .lens) ≡ 4 → length (m .steps) ≡ 4
-    → (gradientBatchAnswer m coefs xs out ≡ 0) ↔ (Sound (m .count) (m .lens) (m .steps) coefs × (out % m .count ≡ 0) × (xs ≡ out))
+GradientBatchTotal = (f : Format) (m : RegularMap) (coefs : List Float) (xs out : ℕ) → length (m .lens) ≡ 4 → length (m .steps) ≡ 4
+    → (gradientBatchAnswer (regular f m coefs) xs out ≡ 0) ↔ (Sound (m .count) (m .lens) (m .steps) (length coefs) × (out % m .count ≡ 0) × (xs ≡ out))

@@ -1,20 +1,20 @@
 // Batches of queries, axis after axis. A batch that is refused with 6 at an entry has written the entries before it and none
 // from it on.
 ghost use mathlib.Core.Path.{_≡_};
-ghost use Prim.Native.Nat.{_+_, _*_, _/_, _≤_, _<_};
-ghost use lib.ListN.{length, take, getD};
-ghost use lib.Ieee.{binary64, nan};
+ghost use Prim.Native.Nat.{_*_, _≤_, _<_};
+ghost use lib.ListN.{length, take};
+ghost use lib.Ieee.{binary64};
 ghost use Rattle.shape.specs.Shape.{size};
-ghost use Rattle.shape.specs.Cells.{put};
 ghost use Rattle.shape.specs.Usable.{Usable};
 ghost use Rattle.shape.specs.Refusal.{answerNumber};
-ghost use Rattle.regular_map.specs.Batch.{badAt, valueStep, gradientStep, Entry, Entries, Batch};
-ghost use Rattle.regular_map.specs.Checks.{batchAnswer, gradientBatchAnswer};
+ghost use Rattle.evaluation.specs.Batch.{badAt, valueStep, gradientStep, Entry, Entries, ValueBatch, GradientBatch};
+ghost use Rattle.regular_map.specs.Checks.{regular};
 use crate::build::check_map;
-use crate::eval::Valued;
 use crate::eval::gradient_at;
-use crate::eval::query;
 use crate::eval::value_at;
+use evaluation::Valued;
+use evaluation::put_parts;
+use evaluation::query;
 use shape::Answer;
 use shape::Refusal;
 
@@ -33,7 +33,7 @@ fn put_value(
 ) -> Answer
     requires { ⌜ Usable count dims × (length (now coeffs) ≡ size (take count dims)) ⌝ }
     requires { ⌜ (i < n) × (count * n ≤ length (now xs)) × (n ≤ length (now out)) ⌝ }
-    ensures { λ r. ⌜ Entry (badAt binary64 (record { count = count; lens = dims; starts = starts; steps = steps; linear = linear }) (now (coeffs .entry)) (now (xs .entry)) n i) (valueStep binary64 (record { count = count; lens = dims; starts = starts; steps = steps; linear = linear }) (now (coeffs .entry)) (now (xs .entry)) n i) (now (out .entry)) (answerNumber r) (now (out .exit)) ⌝ }
+    ensures { λ r. ⌜ Entry (badAt (regular binary64 (record { count = count; lens = dims; starts = starts; steps = steps; linear = linear }) (now (coeffs .entry))) (now (xs .entry)) n i) (valueStep (regular binary64 (record { count = count; lens = dims; starts = starts; steps = steps; linear = linear }) (now (coeffs .entry))) (now (xs .entry)) n i) (now (out .entry)) (answerNumber r) (now (out .exit)) ⌝ }
 {
     let x = query(xs, n, i, count);
     let valued = value_at(count, dims, starts, steps, linear, coeffs, x);
@@ -60,7 +60,7 @@ fn put_values(
 ) -> Answer
     requires { ⌜ Usable count dims × (length (now coeffs) ≡ size (take count dims)) ⌝ }
     requires { ⌜ (count * n ≤ length (now xs)) × (n ≤ length (now out)) ⌝ }
-    ensures { λ r. ⌜ Entries (badAt binary64 (record { count = count; lens = dims; starts = starts; steps = steps; linear = linear }) (now (coeffs .entry)) (now (xs .entry)) n) (valueStep binary64 (record { count = count; lens = dims; starts = starts; steps = steps; linear = linear }) (now (coeffs .entry)) (now (xs .entry)) n) n (now (out .entry)) (answerNumber r) (now (out .exit)) ⌝ }
+    ensures { λ r. ⌜ Entries (badAt (regular binary64 (record { count = count; lens = dims; starts = starts; steps = steps; linear = linear }) (now (coeffs .entry))) (now (xs .entry)) n) (valueStep (regular binary64 (record { count = count; lens = dims; starts = starts; steps = steps; linear = linear }) (now (coeffs .entry))) (now (xs .entry)) n) n (now (out .entry)) (answerNumber r) (now (out .exit)) ⌝ }
 {
     for i in 0..n {
         if let Answer::Refused(refusal) = put_value(
@@ -92,7 +92,7 @@ pub fn values(
     xs: &[f64],
     out: &mut [f64],
 ) -> Answer
-    ensures { λ r. ⌜ Batch (batchAnswer (record { count = count; lens = dims; starts = starts; steps = steps; linear = linear }) (length (now (coeffs .entry))) (length (now (xs .entry))) (length (now (out .entry)))) (badAt binary64 (record { count = count; lens = dims; starts = starts; steps = steps; linear = linear }) (now (coeffs .entry)) (now (xs .entry)) (length (now (out .entry)))) (valueStep binary64 (record { count = count; lens = dims; starts = starts; steps = steps; linear = linear }) (now (coeffs .entry)) (now (xs .entry)) (length (now (out .entry)))) (length (now (out .entry))) (now (out .entry)) (answerNumber r) (now (out .exit)) ⌝ }
+    ensures { λ r. ⌜ ValueBatch (regular binary64 (record { count = count; lens = dims; starts = starts; steps = steps; linear = linear }) (now (coeffs .entry))) (now (xs .entry)) (now (out .entry)) (answerNumber r) (now (out .exit)) ⌝ }
 {
     if let Answer::Refused(refusal) = check_map(count, dims, steps, coeffs.len()) {
         return Answer::Refused(refusal);
@@ -102,16 +102,6 @@ pub fn values(
         return Answer::Refused(Refusal::DimensionMismatch);
     }
     put_values(count, dims, starts, steps, linear, coeffs, xs, n, out)
-}
-
-// The parts of entry i of n: part k at k n + i.
-fn put_parts(parts: [f64; 4], count: usize, n: usize, i: usize, out: &mut [f64])
-    requires { ⌜ (count ≤ 4) × (i < n) × (count * n ≤ length (now out)) ⌝ }
-    ensures { λ _. ⌜ now (out .exit) ≡ put (λ k. k * n + i) (λ k. getD parts k nan) count (now (out .entry)) ⌝ }
-{
-    for k in 0..count {
-        out[k * n + i] = parts[k];
-    }
 }
 
 // Entry i of n: its gradient, unless it is refused.
@@ -129,7 +119,7 @@ fn put_gradient(
 ) -> Answer
     requires { ⌜ Usable count dims × (length (now coeffs) ≡ size (take count dims)) ⌝ }
     requires { ⌜ (i < n) × (count * n ≤ length (now xs)) × (count * n ≤ length (now out)) ⌝ }
-    ensures { λ r. ⌜ Entry (badAt binary64 (record { count = count; lens = dims; starts = starts; steps = steps; linear = linear }) (now (coeffs .entry)) (now (xs .entry)) n i) (gradientStep binary64 (record { count = count; lens = dims; starts = starts; steps = steps; linear = linear }) (now (coeffs .entry)) (now (xs .entry)) n i) (now (out .entry)) (answerNumber r) (now (out .exit)) ⌝ }
+    ensures { λ r. ⌜ Entry (badAt (regular binary64 (record { count = count; lens = dims; starts = starts; steps = steps; linear = linear }) (now (coeffs .entry))) (now (xs .entry)) n i) (gradientStep (regular binary64 (record { count = count; lens = dims; starts = starts; steps = steps; linear = linear }) (now (coeffs .entry))) (now (xs .entry)) n i) (now (out .entry)) (answerNumber r) (now (out .exit)) ⌝ }
 {
     let x = query(xs, n, i, count);
     let gradient = gradient_at(count, dims, starts, steps, linear, coeffs, x);
@@ -158,7 +148,7 @@ fn put_gradients(
 ) -> Answer
     requires { ⌜ Usable count dims × (length (now coeffs) ≡ size (take count dims)) ⌝ }
     requires { ⌜ (count * n ≤ length (now xs)) × (count * n ≤ length (now out)) ⌝ }
-    ensures { λ r. ⌜ Entries (badAt binary64 (record { count = count; lens = dims; starts = starts; steps = steps; linear = linear }) (now (coeffs .entry)) (now (xs .entry)) n) (gradientStep binary64 (record { count = count; lens = dims; starts = starts; steps = steps; linear = linear }) (now (coeffs .entry)) (now (xs .entry)) n) n (now (out .entry)) (answerNumber r) (now (out .exit)) ⌝ }
+    ensures { λ r. ⌜ Entries (badAt (regular binary64 (record { count = count; lens = dims; starts = starts; steps = steps; linear = linear }) (now (coeffs .entry))) (now (xs .entry)) n) (gradientStep (regular binary64 (record { count = count; lens = dims; starts = starts; steps = steps; linear = linear }) (now (coeffs .entry))) (now (xs .entry)) n) n (now (out .entry)) (answerNumber r) (now (out .exit)) ⌝ }
 {
     for i in 0..n {
         if let Answer::Refused(refusal) = put_gradient(
@@ -190,7 +180,7 @@ pub fn gradients(
     xs: &[f64],
     out: &mut [f64],
 ) -> Answer
-    ensures { λ r. ⌜ Batch (gradientBatchAnswer (record { count = count; lens = dims; starts = starts; steps = steps; linear = linear }) (length (now (coeffs .entry))) (length (now (xs .entry))) (length (now (out .entry)))) (badAt binary64 (record { count = count; lens = dims; starts = starts; steps = steps; linear = linear }) (now (coeffs .entry)) (now (xs .entry)) ((length (now (out .entry))) / count)) (gradientStep binary64 (record { count = count; lens = dims; starts = starts; steps = steps; linear = linear }) (now (coeffs .entry)) (now (xs .entry)) ((length (now (out .entry))) / count)) ((length (now (out .entry))) / count) (now (out .entry)) (answerNumber r) (now (out .exit)) ⌝ }
+    ensures { λ r. ⌜ GradientBatch (regular binary64 (record { count = count; lens = dims; starts = starts; steps = steps; linear = linear }) (now (coeffs .entry))) (now (xs .entry)) (now (out .entry)) (answerNumber r) (now (out .exit)) ⌝ }
 {
     if let Answer::Refused(refusal) = check_map(count, dims, steps, coeffs.len()) {
         return Answer::Refused(refusal);

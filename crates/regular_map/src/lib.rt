@@ -6,7 +6,7 @@ mod build;
 mod eval;
 mod record;
 
-pub use eval::Gradient;
-pub use eval::Valued;
+pub use evaluation::Gradient;
+pub use evaluation::Valued;
 pub use record::Built;
 pub use record::MultiBsplineRegular;

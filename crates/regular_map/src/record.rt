@@ -1,19 +1,18 @@
 // The record of a regular map. It travels by value; its coefficients are lent beside it, and each call looks at it anew.
-ghost use mathlib.Core.Path.{_≡_};
-ghost use Prim.Native.Nat.{_/_};
 ghost use lib.ListN.{length};
 ghost use lib.Ieee.{binary64};
 ghost use Rattle.shape.specs.Checks.{firstRefusal, regularFitChecks};
 ghost use Rattle.shape.specs.Refusal.{answerNumber};
-ghost use Rattle.regular.specs.Fit.{Fitted};
-ghost use Rattle.regular_map.specs.Map.{mapOf, BuiltFrom};
-ghost use Rattle.regular_map.specs.Checks.{mapAnswer, fromValuesAnswer, OneValue, OneGradient, batchAnswer, gradientBatchAnswer};
-ghost use Rattle.regular_map.specs.Batch.{Batch, badAt, valueStep, gradientStep};
+ghost use Rattle.regular.specs.Fit.{RegularFitted};
+ghost use Rattle.evaluation.specs.Spline.{OneValue, OneGradient};
+ghost use Rattle.evaluation.specs.Batch.{ValueBatch, GradientBatch};
+ghost use Rattle.regular_map.specs.Map.{mapOf, RegularBuilt};
+ghost use Rattle.regular_map.specs.Checks.{mapAnswer, fromValuesAnswer, regular};
 use crate::batch;
 use crate::build;
 use crate::eval;
-use crate::eval::Gradient;
-use crate::eval::Valued;
+use evaluation::Gradient;
+use evaluation::Valued;
 use shape::Answer;
 use shape::Shape;
 
@@ -40,7 +39,7 @@ impl MultiBsplineRegular {
     // length of the coefficients; 5, a step not above zero; 2, the number of coordinates; 6, a coordinate whose cell cannot
     // be represented.
     pub fn interp_one(self, coeffs: &[f64], x: &[f64]) -> Valued
-        ensures { λ r. ⌜ OneValue binary64 (mapOf self) (now (coeffs .entry)) (now (x .entry)) r ⌝ }
+        ensures { λ r. ⌜ OneValue (regular binary64 (mapOf self) (now (coeffs .entry))) (now (x .entry)) r ⌝ }
     {
         let dims = self.dims;
         let starts = self.starts;
@@ -58,7 +57,7 @@ impl MultiBsplineRegular {
 
     // The gradient at a query, with the refusals of interp_one.
     pub fn interp_one_grad(self, coeffs: &[f64], x: &[f64]) -> Gradient
-        ensures { λ r. ⌜ OneGradient binary64 (mapOf self) (now (coeffs .entry)) (now (x .entry)) (answerNumber (r .answer)) (r .parts) ⌝ }
+        ensures { λ r. ⌜ OneGradient (regular binary64 (mapOf self) (now (coeffs .entry))) (now (x .entry)) (answerNumber (r .answer)) (r .parts) ⌝ }
     {
         let dims = self.dims;
         let starts = self.starts;
@@ -78,7 +77,7 @@ impl MultiBsplineRegular {
     // refusals of interp_one, 2 where the numbers of coordinates and outputs disagree. A batch that is refused with 6 at an
     // entry has written the entries before it and none from it on; any other refusal leaves `out` as it was.
     pub fn interp(self, coeffs: &[f64], x: &[f64], out: &mut [f64]) -> Answer
-        ensures { λ r. ⌜ Batch (batchAnswer (mapOf self) (length (now (coeffs .entry))) (length (now (x .entry))) (length (now (out .entry)))) (badAt binary64 (mapOf self) (now (coeffs .entry)) (now (x .entry)) (length (now (out .entry)))) (valueStep binary64 (mapOf self) (now (coeffs .entry)) (now (x .entry)) (length (now (out .entry)))) (length (now (out .entry))) (now (out .entry)) (answerNumber r) (now (out .exit)) ⌝ }
+        ensures { λ r. ⌜ ValueBatch (regular binary64 (mapOf self) (now (coeffs .entry))) (now (x .entry)) (now (out .entry)) (answerNumber r) (now (out .exit)) ⌝ }
     {
         let dims = self.dims;
         let starts = self.starts;
@@ -98,7 +97,7 @@ impl MultiBsplineRegular {
     // Gradients at a batch of queries, both axis after axis: of n entries, part k of entry i at k n + i. As `interp`; 2 also
     // where the length of `out` is no multiple of the axis count.
     pub fn interp_grad(self, coeffs: &[f64], x: &[f64], out: &mut [f64]) -> Answer
-        ensures { λ r. ⌜ Batch (gradientBatchAnswer (mapOf self) (length (now (coeffs .entry))) (length (now (x .entry))) (length (now (out .entry)))) (badAt binary64 (mapOf self) (now (coeffs .entry)) (now (x .entry)) (length (now (out .entry)) / self .count)) (gradientStep binary64 (mapOf self) (now (coeffs .entry)) (now (x .entry)) (length (now (out .entry)) / self .count)) (length (now (out .entry)) / self .count) (now (out .entry)) (answerNumber r) (now (out .exit)) ⌝ }
+        ensures { λ r. ⌜ GradientBatch (regular binary64 (mapOf self) (now (coeffs .entry))) (now (x .entry)) (now (out .entry)) (answerNumber r) (now (out .exit)) ⌝ }
     {
         let dims = self.dims;
         let starts = self.starts;
@@ -124,7 +123,7 @@ impl MultiBsplineRegular {
         coeffs: &[f64],
         linearize_extrapolation: bool,
     ) -> Built
-        ensures { λ r. ⌜ BuiltFrom (mapAnswer (shape .count) (shape .dims) steps (length (now (coeffs .entry)))) (shape .count) (shape .dims) starts steps «linearize_extrapolation» r ⌝ }
+        ensures { λ r. ⌜ RegularBuilt (mapAnswer (shape .count) (shape .dims) steps (length (now (coeffs .entry)))) (shape .count) (shape .dims) starts steps «linearize_extrapolation» r ⌝ }
     {
         let dims = shape.dims;
         build::build(
@@ -148,8 +147,8 @@ impl MultiBsplineRegular {
         scratch: &mut [f64],
         linearize_extrapolation: bool,
     ) -> Built
-        ensures { λ r. ⌜ BuiltFrom (fromValuesAnswer (shape .count) (shape .dims) steps (length (now (vals .entry))) (length (now (coeffs .entry))) (length (now (scratch .entry)))) (shape .count) (shape .dims) starts steps «linearize_extrapolation» r ⌝ }
-        ensures { λ r. ⌜ Fitted binary64 (shape .count) (shape .dims) (now (vals .entry)) (now (coeffs .entry)) (now (scratch .entry)) (firstRefusal (regularFitChecks (shape .count) (shape .dims) (length (now (vals .entry))) (length (now (coeffs .entry))) (length (now (scratch .entry))))) (now (coeffs .exit)) (now (scratch .exit)) ⌝ }
+        ensures { λ r. ⌜ RegularBuilt (fromValuesAnswer (shape .count) (shape .dims) steps (length (now (vals .entry))) (length (now (coeffs .entry))) (length (now (scratch .entry)))) (shape .count) (shape .dims) starts steps «linearize_extrapolation» r ⌝ }
+        ensures { λ r. ⌜ RegularFitted binary64 (shape .count) (shape .dims) (now (vals .entry)) (now (coeffs .entry)) (now (scratch .entry)) (firstRefusal (regularFitChecks (shape .count) (shape .dims) (length (now (vals .entry))) (length (now (coeffs .entry))) (length (now (scratch .entry))))) (now (coeffs .exit)) (now (scratch .exit)) ⌝ }
     {
         let dims = shape.dims;
         build::from_values(

@@ -1,22 +1,21 @@
-use mathlib.Core.Path.{_≡_, refl, sym, _∙_}
-use Prim.Native.Nat.{_*_, _/_, _≤_, _<_}
-use native.Mathlib.Nat.{div-add-mod'}
 use native.Mathlib.Omega.{arith}
 use denote.Ref.{now}
 use lib.ListN.{length}
-use lib.Ieee.{binary64}
 use borrow.Author.Needs.{needs}
 use Rattle.shape.specs.declared.answers.Refusal.the-variants.{DimensionMismatch}
-use Rattle.regular_map.proofs.Answers.{map-usable, map-sized, gradient-map, gradient-whole, gradient-length, gradient-passed}
-use Rattle.regular_map.proofs.Batches.{batch-refused, batch-entries, whole-batch}
+use Rattle.evaluation.proofs.Batches.{batch-refused, batch-entries, whole-batch}
+use Rattle.evaluation.proofs.Outcomes.{gradient-checks, gradient-whole, gradient-length, gradient-passed}
+use Rattle.regular_map.specs.Checks.{mapAnswer}
+use Rattle.regular_map.proofs.Steps.{map-numbered, map-usable, map-sized}
 use Rattle.regular_map.proofs.batch.gradients.Statement.{statement}
 use Rattle.regular_map.proofs.batch.gradients.Tie as tie
 
 returns : tie.Need-returns
+unfolding mapAnswer
 returns c =
     let w = c .before .before .before in
     let a = w .before .before .before .before .args in
-    batch-refused (c .before .refusal .given .0 .0) (gradient-map _ (length (now (a .coeffs))) (length (now (a .xs))) (length (now (a .out))) (c .before .refusal .given .1) (w .check-map .ensures))
+    batch-refused (c .before .refusal .given .0 .0) (gradient-checks _ (length (now (a .xs))) (length (now (a .out))) (c .before .refusal .given .1) (w .check-map .ensures))
 
 rem-if1 : tie.Need-rem-if1
 rem-if1 c =
@@ -26,19 +25,21 @@ rem-if1 c =
     omega (arith, u .some-axis)
 
 returns-2 : tie.Need-returns-2
+unfolding mapAnswer
 returns-2 c =
     let t = c .before in
     let w = t .before .before in
     let a = w .before .before .before .before .args in
-    batch-refused DimensionMismatch (gradient-whole _ (length (now (a .coeffs))) (length (now (a .xs))) (length (now (a .out))) (t .enum-told .given .1) (w .check-map .ensures) (c .if1 .taken))
+    batch-refused DimensionMismatch (gradient-whole _ (length (now (a .xs))) (length (now (a .out))) (map-numbered (a .count) (a .dims) (a .steps) (length (now (a .coeffs)))) (t .enum-told .given .1) (w .check-map .ensures) (c .if1 .taken))
 
 returns-3 : tie.Need-returns-3
+unfolding mapAnswer
 returns-3 c =
     let i = c .before in
     let t = i .before in
     let w = t .before .before in
     let a = w .before .before .before .before .args in
-    batch-refused DimensionMismatch (gradient-length _ (length (now (a .coeffs))) (length (now (a .xs))) (length (now (a .out))) (t .enum-told .given .1) (w .check-map .ensures) (i .if1 .left) (c .if2 .taken))
+    batch-refused DimensionMismatch (gradient-length _ (length (now (a .xs))) (length (now (a .out))) (map-numbered (a .count) (a .dims) (a .steps) (length (now (a .coeffs)))) (t .enum-told .given .1) (w .check-map .ensures) (i .if1 .left) (c .if2 .taken))
 
 div-n : tie.Need-div-n
 div-n c =
@@ -64,6 +65,7 @@ put-gradients-requires c κs =
     )
 
 returns-4 : tie.Need-returns-4
+unfolding mapAnswer
 returns-4 c =
     let p = c .before .before in
     let j = p .before .before in
@@ -71,7 +73,7 @@ returns-4 c =
     let t = i .before in
     let w = t .before .before in
     let a = w .before .before .before .before .args in
-    batch-entries (gradient-passed _ (length (now (a .coeffs))) (length (now (a .xs))) (length (now (a .out))) (t .enum-told .given .1) (w .check-map .ensures) (i .if1 .left) (j .if2 .left)) (p .put-gradients .ensures)
+    batch-entries (gradient-passed _ (length (now (a .xs))) (length (now (a .out))) (map-numbered (a .count) (a .dims) (a .steps) (length (now (a .coeffs)))) (t .enum-told .given .1) (w .check-map .ensures) (i .if1 .left) (j .if2 .left)) (p .put-gradients .ensures)
 
 pub gradients-spec : {M : Type 1} → statement M
 gradients-spec =

@@ -1,22 +1,17 @@
-use mathlib.Core.Path.{_≡_, sym, ap, _∙_}
-use Prim.Native.Nat.{_-_, _≤_}
+use mathlib.Core.Path.{_∙_}
+use Prim.Native.Nat.{_-_}
 use native.Mathlib.Omega.{arith}
-use lib.ListN.{length}
 use lib.Ieee.{binary64}
 use borrow.Author.Needs.{needs}
-use Rattle.regular_map.specs.Batch.{badAt, valueStep}
-use Rattle.regular_map.proofs.Batches.{Running, running-start, running-next, running-stop, running-done}
+use Rattle.evaluation.specs.Batch.{badAt, valueStep}
+use Rattle.evaluation.proofs.Batches.{Running, running-start, running-next, running-stop, running-done}
+use Rattle.regular_map.specs.Checks.{regular}
 use Rattle.regular_map.proofs.batch.put_values.Statement.{statement}
 use Rattle.regular_map.proofs.batch.put_values.Tie as tie
 
 abbrev Inv : tie.InvT-loop
 Inv count dims starts steps linear coeffs xs n out₀ i₀ out i =
-    Running (badAt binary64 (record { count = count; lens = dims; starts = starts; steps = steps; linear = linear }) coeffs xs n)
-    (valueStep binary64 (record { count = count; lens = dims; starts = starts; steps = steps; linear = linear }) coeffs xs n)
-    n
-    out₀
-    out
-    i
+    let s = regular binary64 (record { count = count; lens = dims; starts = starts; steps = steps; linear = linear }) coeffs in Running (badAt s xs n) (valueStep s xs n) n out₀ out i
 
 abbrev μ : tie.MeasureT-loop
 μ count dims starts steps linear coeffs xs n out₀ i₀ out i = n - i

@@ -1,21 +1,21 @@
-use mathlib.Core.Path.{_≡_, sym, _∙_}
-use Prim.Native.Nat.{_*_, _≤_, _<_}
 use native.Mathlib.Omega.{arith}
 use denote.Ref.{now}
 use lib.ListN.{length}
-use lib.Ieee.{binary64}
 use borrow.Author.Needs.{needs}
 use Rattle.shape.specs.declared.answers.Refusal.the-variants.{DimensionMismatch}
-use Rattle.regular_map.proofs.Answers.{map-usable, map-sized, batch-map, batch-length, batch-passed}
-use Rattle.regular_map.proofs.Batches.{batch-refused, batch-entries, batch-small}
+use Rattle.evaluation.proofs.Batches.{batch-refused, batch-entries, batch-small}
+use Rattle.evaluation.proofs.Outcomes.{batch-checks, batch-length, batch-passed}
+use Rattle.regular_map.specs.Checks.{mapAnswer}
+use Rattle.regular_map.proofs.Steps.{map-numbered, map-usable, map-sized}
 use Rattle.regular_map.proofs.batch.values.Statement.{statement}
 use Rattle.regular_map.proofs.batch.values.Tie as tie
 
 returns : tie.Need-returns
+unfolding mapAnswer
 returns c =
     let w = c .before .before .before in
     let a = w .before .before .before .before .args in
-    batch-refused (c .before .refusal .given .0 .0) (batch-map _ (length (now (a .coeffs))) (length (now (a .xs))) (length (now (a .out))) (c .before .refusal .given .1) (w .check-map .ensures))
+    batch-refused (c .before .refusal .given .0 .0) (batch-checks _ (length (now (a .xs))) (length (now (a .out))) (c .before .refusal .given .1) (w .check-map .ensures))
 
 mul-if1 : tie.Need-mul-if1
 mul-if1 c =
@@ -25,11 +25,12 @@ mul-if1 c =
     record { fits = batch-small (s .args .count) (length (now (s .args .out))) (u .at-most-four) (omega (arith, s .good)) }
 
 returns-2 : tie.Need-returns-2
+unfolding mapAnswer
 returns-2 c =
     let t = c .before in
     let w = t .before .before in
     let a = w .before .before .before .before .args in
-    batch-refused DimensionMismatch (batch-length _ (length (now (a .coeffs))) (length (now (a .xs))) (length (now (a .out))) (t .enum-told .given .1) (w .check-map .ensures) (c .if1 .taken))
+    batch-refused DimensionMismatch (batch-length _ (length (now (a .xs))) (length (now (a .out))) (map-numbered (a .count) (a .dims) (a .steps) (length (now (a .coeffs)))) (t .enum-told .given .1) (w .check-map .ensures) (c .if1 .taken))
 
 put-values-requires : tie.Need-put-values-requires
 put-values-requires c κs =
@@ -45,13 +46,14 @@ put-values-requires c κs =
     )
 
 returns-3 : tie.Need-returns-3
+unfolding mapAnswer
 returns-3 c =
     let p = c .before .before in
     let i = p .before .before in
     let t = i .before in
     let w = t .before .before in
     let a = w .before .before .before .before .args in
-    batch-entries (batch-passed _ (length (now (a .coeffs))) (length (now (a .xs))) (length (now (a .out))) (t .enum-told .given .1) (w .check-map .ensures) (i .if1 .left)) (p .put-values .ensures)
+    batch-entries (batch-passed _ (length (now (a .xs))) (length (now (a .out))) (map-numbered (a .count) (a .dims) (a .steps) (length (now (a .coeffs)))) (t .enum-told .given .1) (w .check-map .ensures) (i .if1 .left)) (p .put-values .ensures)
 
 pub values-spec : {M : Type 1} → statement M
 values-spec =

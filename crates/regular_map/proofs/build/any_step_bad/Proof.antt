@@ -1,9 +1,8 @@
 use mathlib.Core.Path.{_≡_, refl, sym, _∙_}
-use mathlib.Core.Bool.{true, false, _||_}
-use Prim.Native.Nat.{_≤_, _-_, _+_}
+use Prim.Native.Nat.{_≤_, _-_}
 use native.Mathlib.Omega.{arith}
 use lib.Ieee.{ofBits}
-use lib.ListN.{length, take, drop}
+use lib.ListN.{take, drop}
 use Rattle.regular_map.specs.Checks.{anyStepBad}
 use Rattle.regular_map.proofs.Steps.{bad-cons, bad-end}
 use Rattle.regular_map.proofs.build.any_step_bad.Statement.{statement}

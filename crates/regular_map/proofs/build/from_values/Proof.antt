@@ -1,10 +1,12 @@
-use mathlib.Core.Path.{_≡_, sym, ap, _∙_}
+use mathlib.Core.Path.{sym, ap, _∙_}
 use native.Mathlib.Omega.{arith}
 use denote.Ref.{now}
 use lib.ListN.{length}
 use borrow.Author.Needs.{needs}
+use Rattle.shape.proofs.Fitted.{fitted-by}
 use Rattle.regular_map.specs.Checks.{mapAnswer}
-use Rattle.regular_map.proofs.Builds.{built-refused, built-at, values-refused, values-passed, fitted-by}
+use Rattle.evaluation.proofs.Builds.{refused-with, built-at}
+use Rattle.regular_map.proofs.Builds.{values-refused, values-passed}
 use Rattle.regular_map.proofs.build.from_values.Statement.{statement}
 use Rattle.regular_map.proofs.build.from_values.Tie as tie
 
@@ -13,7 +15,7 @@ returns c =
     let k = c .before .before in
     let w = k .before .before .before .before .before .before in
     let a = w .before .before .before .before .before .before .args in (
-      built-refused _ _ _ _ _ (k .refusal .given .0 .0)
+      refused-with (k .refusal .given .0 .0)
           (values-refused (a .count) (a .dims) (a .steps) (length (now (a .vals))) (length (now (a .coeffs))) (length (now (a .scratch))) (k .refusal .given .1) (w .coefficients .ensures .answers))
           (c .refused .ensures .0) (c .refused .ensures .1),
       fitted-by (w .coefficients .ensures),
@@ -26,7 +28,7 @@ returns-2 c =
     let s = w .before .before .before .before .before .before in
     let a = s .args in
     let kept = w .coefficients .kept .1 .1 .0 in (
-      built-at _ _ _ _ _
+      built-at
           (values-passed (a .count) (a .dims) (a .steps) (length (now (a .vals))) (length (now (a .coeffs))) (length (now (a .scratch))) (omega (arith, s .good)) (t .enum-told .given .1) (w .coefficients .ensures .answers)
           ∙ ap (mapAnswer (a .count) (a .dims) (a .steps)) (sym kept))
           (c .build .ensures),

@@ -1,14 +1,14 @@
-use mathlib.Core.Path.{_≡_, refl, sym, ap, _∙_}
-use Prim.Native.Nat.{ℕ, _+_, _*_, _-_, _≤_, _<_}
+use mathlib.Core.Path.{_≡_, refl, sym, _∙_}
+use Prim.Native.Nat.{_+_, _*_, _-_, _≤_}
 use native.Mathlib.Omega.{arith}
-use lib.ListN.{length, getD}
 use lib.Ieee.{binary64}
 use borrow.Author.Needs.{needs}
 use Rattle.shape.proofs.Accepted.{axis-small}
 use Rattle.regular_weights.proofs.Cells.{origin-room}
 use Rattle.regular_map.specs.declared.eval.First.the-variants.{At}
 use Rattle.regular_map.specs.Eval.{firstOn, locOn}
-use Rattle.regular_map.proofs.Places.{Below, below-start, below-next, below-small, first-next, first-refused}
+use Rattle.evaluation.proofs.Reach.{Below, below-start, below-next, below-small}
+use Rattle.regular_map.proofs.Places.{first-next, first-refused}
 use Rattle.regular_map.proofs.eval.first_of.Statement.{statement}
 use Rattle.regular_map.proofs.eval.first_of.Tie as tie
 

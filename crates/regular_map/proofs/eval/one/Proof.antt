@@ -1,25 +1,28 @@
-use mathlib.Core.Path.{_≡_, refl, sym, _∙_}
 use native.Mathlib.Omega.{arith}
 use denote.Ref.{now}
-use lib.Ieee.{binary64}
+use lib.ListN.{length}
 use borrow.Author.Needs.{needs}
 use Rattle.shape.specs.declared.answers.Refusal.the-variants.{DimensionMismatch}
-use Rattle.regular_map.proofs.Answers.{map-usable, map-sized, one-refused, one-map, one-length, one-answered}
+use Rattle.evaluation.proofs.Outcomes.{one-refused, one-checks, one-length, one-answered}
+use Rattle.regular_map.specs.Checks.{mapAnswer}
+use Rattle.regular_map.proofs.Steps.{map-numbered, map-usable, map-sized}
 use Rattle.regular_map.proofs.eval.one.Statement.{statement}
 use Rattle.regular_map.proofs.eval.one.Tie as tie
 
 returns : tie.Need-returns
+unfolding mapAnswer
 returns c =
     let w = c .before .before .before in
     let a = w .before .before .before .args in
-    one-refused binary64 _ (now (a .coeffs)) (now (a .x)) _ (one-map binary64 _ (now (a .coeffs)) (now (a .x)) (c .before .refusal .given .1) (w .check-map .ensures))
+    one-refused _ (now (a .x)) _ (one-checks _ (now (a .x)) (c .before .refusal .given .1) (w .check-map .ensures))
 
 returns-2 : tie.Need-returns-2
+unfolding mapAnswer
 returns-2 c =
     let t = c .before in
     let w = t .before .before in
     let a = w .before .before .before .args in
-    one-refused binary64 _ (now (a .coeffs)) (now (a .x)) DimensionMismatch (one-length binary64 _ (now (a .coeffs)) (now (a .x)) (t .enum-told .given .1) (w .check-map .ensures) (c .if1 .taken))
+    one-refused _ (now (a .x)) DimensionMismatch (one-length _ (now (a .x)) (map-numbered (a .count) (a .dims) (a .steps) (length (now (a .coeffs)))) (t .enum-told .given .1) (w .check-map .ensures) (c .if1 .taken))
 
 query-requires : tie.Need-query-requires
 query-requires c κs =
@@ -39,13 +42,14 @@ value-at-requires c κs =
     )
 
 returns-3 : tie.Need-returns-3
+unfolding mapAnswer
 returns-3 c =
     let q = c .before in
     let i = q .before in
     let t = i .before in
     let w = t .before .before in
     let a = w .before .before .before .args in
-    one-answered binary64 _ (now (a .coeffs)) (now (a .x)) (t .enum-told .given .1) (w .check-map .ensures) (i .if1 .left) (rw (q .query .ensures) at (c .value-at .ensures))
+    one-answered _ (now (a .x)) (map-numbered (a .count) (a .dims) (a .steps) (length (now (a .coeffs)))) (t .enum-told .given .1) (w .check-map .ensures) (i .if1 .left) (rw (q .query .ensures) at (c .value-at .ensures))
 
 pub one-spec : {M : Type 1} → statement M
 one-spec =

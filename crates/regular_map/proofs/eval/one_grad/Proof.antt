@@ -1,27 +1,30 @@
-use mathlib.Core.Path.{_≡_, refl, sym, _∙_}
 use native.Mathlib.Omega.{arith}
 use denote.Ref.{now}
-use lib.Ieee.{binary64}
+use lib.ListN.{length}
 use borrow.Author.Needs.{needs}
 use Rattle.shape.specs.declared.answers.Refusal.the-variants.{DimensionMismatch}
-use Rattle.regular_map.proofs.Answers.{map-usable, map-sized, one-gradient-refused, one-map, one-length, one-gradient-answered}
+use Rattle.evaluation.proofs.Outcomes.{one-gradient-refused, one-checks, one-length, one-gradient-answered}
+use Rattle.regular_map.specs.Checks.{mapAnswer}
+use Rattle.regular_map.proofs.Steps.{map-numbered, map-usable, map-sized}
 use Rattle.regular_map.proofs.eval.one_grad.Statement.{statement}
 use Rattle.regular_map.proofs.eval.one_grad.Tie as tie
 
 returns : tie.Need-returns
+unfolding mapAnswer
 returns c =
     let k = c .before .before in
     let w = k .before .before in
     let a = w .before .before .before .args in
-    one-gradient-refused binary64 _ (now (a .coeffs)) (now (a .x)) (k .refusal .given .0 .0) (one-map binary64 _ (now (a .coeffs)) (now (a .x)) (k .refusal .given .1) (w .check-map .ensures)) (c .refused .ensures .0) (c .refused .ensures .1)
+    one-gradient-refused _ (now (a .x)) (k .refusal .given .0 .0) (one-checks _ (now (a .x)) (k .refusal .given .1) (w .check-map .ensures)) (c .refused-gradient .ensures .0) (c .refused-gradient .ensures .1)
 
 returns-2 : tie.Need-returns-2
+unfolding mapAnswer
 returns-2 c =
     let i = c .before in
     let t = i .before in
     let w = t .before .before in
     let a = w .before .before .before .args in
-    one-gradient-refused binary64 _ (now (a .coeffs)) (now (a .x)) DimensionMismatch (one-length binary64 _ (now (a .coeffs)) (now (a .x)) (t .enum-told .given .1) (w .check-map .ensures) (i .if1 .taken)) (c .refused2 .ensures .0) (c .refused2 .ensures .1)
+    one-gradient-refused _ (now (a .x)) DimensionMismatch (one-length _ (now (a .x)) (map-numbered (a .count) (a .dims) (a .steps) (length (now (a .coeffs)))) (t .enum-told .given .1) (w .check-map .ensures) (i .if1 .taken)) (c .refused-gradient2 .ensures .0) (c .refused-gradient2 .ensures .1)
 
 query-requires : tie.Need-query-requires
 query-requires c κs =
@@ -41,13 +44,14 @@ gradient-at-requires c κs =
     )
 
 returns-3 : tie.Need-returns-3
+unfolding mapAnswer
 returns-3 c =
     let q = c .before in
     let i = q .before in
     let t = i .before in
     let w = t .before .before in
     let a = w .before .before .before .args in
-    one-gradient-answered binary64 _ (now (a .coeffs)) (now (a .x)) (t .enum-told .given .1) (w .check-map .ensures) (i .if1 .left) (rw (q .query .ensures) at (c .gradient-at .ensures))
+    one-gradient-answered _ (now (a .x)) (map-numbered (a .count) (a .dims) (a .steps) (length (now (a .coeffs)))) (t .enum-told .given .1) (w .check-map .ensures) (i .if1 .left) (rw (q .query .ensures) at (c .gradient-at .ensures))
 
 pub one-grad-spec : {M : Type 1} → statement M
 one-grad-spec =

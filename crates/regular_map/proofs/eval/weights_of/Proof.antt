@@ -1,4 +1,3 @@
-use mathlib.Core.Path.{refl}
 use borrow.Author.Needs.{needs}
 use Rattle.regular_map.proofs.eval.weights_of.Statement.{statement}
 use Rattle.regular_map.proofs.eval.weights_of.Tie as tie

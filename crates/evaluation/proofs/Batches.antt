@@ -1,0 +1,110 @@
+-- Entries of a batch, up to the first that is refused. Assumes nothing.
+use mathlib.Core.Path.{_≡_, refl, sym, ap, _∙_}
+use mathlib.Core.Bool.{Bool, true, false, cond}
+use mathlib.Core.List.{List}
+use Prim.Native.Nat.{ℕ, zero, suc, _+_, _*_, _/_, _^_, _≤_, _<_}
+use native.Mathlib.Nat.{eq-or-lt-of-le, le-of-suc-le-suc, mul-le-mul-right, mul-comm, div-add-mod'}
+use mathlib.Core.Logic.{_⊎_, inl, inr}
+use native.Mathlib.Numerals.{add-one}
+use native.Mathlib.Omega.{arith}
+use lib.Dec.{eqb}
+use lib.ListN.{length}
+use lib.Ieee.{Float}
+use borrow.Author.Tests.{eq-eqb, ne-eqb, lt-ltb, le-ltb}
+use Rattle.shape.specs.Refusal.{refusalNumber, answerNumber}
+use Rattle.shape.specs.declared.answers.Refusal.{Refusal}
+use Rattle.shape.specs.declared.answers.Answer.{Answer}
+use Rattle.shape.specs.declared.answers.Answer.the-variants.{Accepted, Refused}
+use Rattle.shape.proofs.Accepted.{refusal-suc}
+use Rattle.evaluation.specs.Batch.{before, written, Entry, Entries, Batch}
+
+-- ---- before the first bad one
+
+module _ (bad : ℕ → Bool) where
+  pub before-next : (i : ℕ) → before bad i ≡ i → bad i ≡ false → before bad (i + 1) ≡ i + 1
+  unfolding before
+  before-next i e h = rw (add-one i) (rw (eq-eqb (before bad i) i e, h))
+
+  pub before-stop : (i : ℕ) → before bad i ≡ i → bad i ≡ true → (n : ℕ) → i < n → before bad n ≡ i
+  unfolding before
+  before-stop i e h zero k = absurd (omega (arith, k))
+  before-stop i e h (suc n) k = go (eq-or-lt-of-le (le-of-suc-le-suc k)) (λ l. before-stop i e h n l)
+    where
+      go : (i ≡ n) ⊎ (i < n) → (i < n → before bad n ≡ i) → cond (eqb (before bad n) n) (cond (bad n) n (suc n)) (before bad n) ≡ i
+      go (inl same) ih = rw (← same) (rw (eq-eqb (before bad i) i e, h))
+      go (inr less) ih = let b = ih less in rw (b, ne-eqb i n (λ q. omega arith))
+
+-- ---- one entry
+
+six : (b : Bool) (r : Refusal) → refusalNumber r ≡ cond b 6 0 → b ≡ true
+six true r e = refl
+six false r e = absurd (omega (arith, refusal-suc r, e))
+
+pub none : (b : Bool) → _≡_ {A = ℕ} 0 (cond b 6 0) → b ≡ false
+none true e = absurd (omega (arith, e))
+none false e = refl
+
+module _ {bad : Bool} {step : List Float → List Float} {out : List Float} where
+  pub entry-done : {out′ : List Float} → _≡_ {A = ℕ} 0 (cond bad 6 0) → out′ ≡ step out → Entry bad step out 0 out′
+  entry-done e w = let ok = none bad e in record { answers = e; leaves = rw ok w }
+
+  pub entry-refused : (r : Refusal) → refusalNumber r ≡ cond bad 6 0 → Entry bad step out (refusalNumber r) out
+  entry-refused r e = let no = six bad r e in record { answers = e; leaves = rw no }
+
+-- ---- the loop over the entries
+
+pub record Running (bad : ℕ → Bool) (step : ℕ → List Float → List Float) (n : ℕ) (out₀ out : List Float) (i : ℕ) : Type 0 where
+  pub most : i ≤ n
+  pub length-out : length out ≡ length out₀
+  pub going : before bad i ≡ i
+  pub values : out ≡ written step i out₀
+
+module _ (bad : ℕ → Bool) (step : ℕ → List Float → List Float) (n : ℕ) {out₀ : List Float} where
+  pub running-start : Running bad step n out₀ out₀ 0
+  unfolding before written
+  running-start = record { most = omega arith; length-out = refl; going = refl; values = refl }
+
+  pub running-next : {out out′ : List Float} {i : ℕ} {y : Answer} → Running bad step n out₀ out i → i < n → length out′ ≡ length out → y ≡ Accepted → Entry (bad i) (step i) out (answerNumber y) out′ → Running bad step n out₀ out′ (i + 1)
+  unfolding written
+  running-next {out} {out′} {i} w h len told e =
+      let ok = none (bad i) (sym (ap answerNumber told) ∙ e .answers) in
+      let here : out′ ≡ step i out = rw ok at (e .leaves) in
+      record {
+        most = omega arith;
+        length-out = len ∙ w .length-out;
+        going = before-next bad i (w .going) ok;
+        values = rw (add-one i) (here ∙ ap (step i) (w .values));
+      }
+
+  pub running-stop : {out out′ : List Float} {i : ℕ} {y : Answer} {r : Refusal} → Running bad step n out₀ out i → i < n → y ≡ Refused r → Entry (bad i) (step i) out (answerNumber y) out′ → Entries bad step n out₀ (refusalNumber r) out′
+  running-stop {out} {out′} {i} {y} {r} w h told e =
+      let num : refusalNumber r ≡ cond (bad i) 6 0 = sym (ap answerNumber told) ∙ e .answers in
+      let no = six (bad i) r num in
+      let stop = before-stop bad i (w .going) no n h in
+      let here : out′ ≡ out = rw no at (e .leaves) in
+      record { answers = rw (stop, lt-ltb i n h) (num ∙ rw no); leaves = rw stop (here ∙ w .values) }
+
+  pub running-done : {out : List Float} {i : ℕ} → Running bad step n out₀ out i → n ≤ i → Entries bad step n out₀ 0 out
+  running-done {out} {i} w h =
+      let all : i ≡ n = omega (arith, w .most) in
+      let going = rw all at (w .going) in
+      record { answers = rw (going, le-ltb n n (omega arith)); leaves = rw going (rw all at (w .values)) }
+
+-- ---- a whole batch: refused before its entries, or by them
+
+module _ {lengths : ℕ} {bad : ℕ → Bool} {step : ℕ → List Float → List Float} {n : ℕ} {out : List Float} where
+  pub batch-refused : (r : Refusal) → refusalNumber r ≡ lengths → Batch lengths bad step n out (refusalNumber r) out
+  batch-refused r e =
+      let some : eqb lengths 0 ≡ false = ne-eqb lengths 0 (λ z. omega (arith, refusal-suc r, e)) in
+      record { answers = rw some e; leaves = rw some }
+
+  pub batch-entries : {answer : ℕ} {out′ : List Float} → lengths ≡ 0 → Entries bad step n out answer out′ → Batch lengths bad step n out answer out′
+  batch-entries z w = record { answers = rw z (w .answers); leaves = rw z (w .leaves) }
+
+-- a batch of at most four axes is no longer than memory
+pub batch-small : (count n : ℕ) → count ≤ 4 → n * 8 < 2 ^ 63 → count * n < 2 ^ 64
+batch-small count n h k = omega (arith, mul-le-mul-right n h)
+
+-- whole queries take no more than the batch
+pub whole-batch : (out count : ℕ) → count * (out / count) ≤ out
+whole-batch out count = omega (arith, div-add-mod' out count, mul-comm count (out / count))

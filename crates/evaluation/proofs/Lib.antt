@@ -1,0 +1,6 @@
+pub mod Queries
+pub mod Reach
+pub mod Batches
+pub mod Outcomes
+pub mod Total
+pub mod Builds

@@ -1,0 +1,5 @@
+pub mod Axes
+pub mod Spline
+pub mod Batch
+pub mod Total
+pub mod Built

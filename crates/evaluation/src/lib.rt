@@ -1,0 +1,15 @@
+// What evaluating a map is on either grid: the coordinates of a query, the sums over the coefficients that count, the answers.
+mod answers;
+mod in_use;
+mod places;
+mod sums;
+
+pub use answers::Gradient;
+pub use answers::Valued;
+pub use answers::refused_gradient;
+pub use in_use::used_floats;
+pub use in_use::used_lens;
+pub use places::put_parts;
+pub use places::query;
+pub use sums::gradient_from;
+pub use sums::value_from;
