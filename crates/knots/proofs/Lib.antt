@@ -1,0 +1,6 @@
+pub mod Compare
+pub mod Increase
+pub mod Counts
+pub mod Totals
+pub mod Places
+pub mod Points

@@ -1,0 +1,41 @@
+-- The four coefficients from the origin on are on the axis, and so are both ends of the span; the place of a NaN. Assumes
+-- nothing.
+use mathlib.Core.Path.{_≡_, refl}
+use mathlib.Core.Bool.{Bool, true, false, cond}
+use mathlib.Core.List.{List}
+use Prim.Native.Nat.{ℕ, _+_, _-_, _≤_, _<_}
+use native.Mathlib.Omega.{arith}
+use lib.Dec.{eqb}
+use lib.ListN.{length}
+use lib.Ieee.{Float, nan}
+use borrow.Author.Tests.{eqb-false}
+use Rattle.multibspline.specs.declared.saturation.Saturation.the-variants.{None, InsideLow, OutsideLow, InsideHigh, OutsideHigh}
+use Rattle.knots.specs.Knots.{countBelow}
+use Rattle.knots.specs.Place.{loc, locOf, getLoc}
+use Rattle.knots.specs.declared.place.Loc.{Loc}
+use Rattle.knots.proofs.Counts.{count-le-length, count-nan}
+
+pub record LocWithin (n : ℕ) (l : Loc) : Type 0 where
+  pub origin-most : l .origin ≤ n - 4
+  pub span-room : l .span + 1 < n
+
+pub loc-within : (n c : ℕ) → 4 ≤ n → c ≤ n → LocWithin n (locOf n c)
+unfolding locOf
+loc-within n c hn hc = go (eqb c 0) (eqb c 1) (eqb c (n - 1)) (eqb c n) refl refl refl refl
+  where
+    go : (none one last all : Bool) → eqb c 0 ≡ none → eqb c 1 ≡ one → eqb c (n - 1) ≡ last → eqb c n ≡ all
+        → LocWithin n (cond none (loc OutsideLow 0 0) (cond one (loc InsideLow 0 0) (cond last (loc InsideHigh (n - 2) (n - 4)) (cond all (loc OutsideHigh (n - 2) (n - 4)) (loc None (c - 1) (c - 2))))))
+    go true one last all e₀ e₁ e₂ e₃ = record { origin-most = omega arith; span-room = omega arith }
+    go false true last all e₀ e₁ e₂ e₃ = record { origin-most = omega arith; span-room = omega arith }
+    go false false true all e₀ e₁ e₂ e₃ = record { origin-most = omega arith; span-room = omega arith }
+    go false false false true e₀ e₁ e₂ e₃ = record { origin-most = omega arith; span-room = omega arith }
+    go false false false false e₀ e₁ e₂ e₃ = record { origin-most = omega (arith, eqb-false c (n - 1) e₂, eqb-false c n e₃); span-room = omega (arith, eqb-false c (n - 1) e₂, eqb-false c n e₃) }
+
+pub get-loc-within : (ks : List Float) (x : Float) → 4 ≤ length ks → LocWithin (length ks) (getLoc ks x)
+unfolding getLoc
+get-loc-within ks x h = loc-within (length ks) (countBelow ks x) h (count-le-length ks x)
+
+-- a NaN query has no knot below it
+pub nan-place : (ks : List Float) → getLoc ks nan ≡ loc OutsideLow 0 0
+unfolding getLoc locOf
+nan-place ks = rw (count-nan ks)

@@ -1,0 +1,4 @@
+pub mod Knots
+pub mod Joined
+pub mod Place
+pub mod Checks
