@@ -1,0 +1,5 @@
+pub mod Knot
+pub mod Basis
+pub mod Slopes
+pub mod Ghosts
+pub mod Weights

@@ -1,0 +1,102 @@
+// The slopes of the four weights on a span, and their third derivatives.
+ghost use mathlib.Core.Path.{_≡_};
+ghost use mathlib.Core.List.{[], _∷_};
+ghost use Prim.Native.Nat.{_+_, _<_, _≤_};
+ghost use lib.ListN.{length};
+ghost use lib.Ieee.{binary64};
+ghost use Rattle.rectilinear_weights.specs.Slopes.{spanSamples, sampled as sampledOf, column as columnOf, term as termOf, basisDerivative, lagrangeDerivative, basisSpanWeightDerivatives, thirdDividedDifference, spanWeightThirdDerivatives};
+use crate::basis::basis_span_weights;
+
+fn span_samples(grid: &[f64], span: usize) -> [f64; 4]
+    requires { ⌜ span + 1 < length (now grid) ⌝ }
+    ensures { λ r. ⌜ r ≡ spanSamples binary64 (now (grid .entry)) span ⌝ }
+{
+    let a = grid[span];
+    let h = grid[span + 1] - a;
+    [a, a + h / 3.0, a + (h + h) / 3.0, a + h]
+}
+
+// The four weights at each of the span's samples.
+fn sampled(grid: &[f64], span: usize, xs: [f64; 4]) -> [[f64; 4]; 4]
+    requires { ⌜ (4 ≤ length (now grid)) × (span + 1 < length (now grid)) × (xs ≡ spanSamples binary64 (now grid) span) ⌝ }
+    ensures { λ r. ⌜ r ≡ sampledOf binary64 (now (grid .entry)) span ⌝ }
+{
+    [
+        basis_span_weights(grid, span, xs[0]),
+        basis_span_weights(grid, span, xs[1]),
+        basis_span_weights(grid, span, xs[2]),
+        basis_span_weights(grid, span, xs[3]),
+    ]
+}
+
+// The values of weight j.
+fn column(values: [[f64; 4]; 4], j: usize) -> [f64; 4]
+    requires { ⌜ j < 4 ⌝ }
+    ensures { λ r. ⌜ r ≡ columnOf values j ⌝ }
+{
+    [values[0][j], values[1][j], values[2][j], values[3][j]]
+}
+
+// The term of xm.
+fn term(xj: f64, xm: f64, xk: f64, xl: f64, at: f64) -> f64
+    ensures { λ r. ⌜ r ≡ termOf binary64 (xj ∷ xm ∷ xk ∷ xl ∷ []) at 0 1 4 ⌝ }
+{
+    1.0 / (xj - xm) * (at - xk) / (xj - xk) * (at - xl) / (xj - xl)
+}
+
+// The derivative of the polynomial that is 1 at xj and 0 at the other three.
+fn basis_derivative(xj: f64, xk: f64, xl: f64, xm: f64, at: f64) -> f64
+    ensures { λ r. ⌜ r ≡ basisDerivative binary64 (xj ∷ xk ∷ xl ∷ xm ∷ []) at 0 4 ⌝ }
+{
+    0.0 + term(xj, xk, xl, xm, at) + term(xj, xl, xk, xm, at) + term(xj, xm, xk, xl, at)
+}
+
+// The derivative, at `at`, of the cubic through four points.
+fn lagrange_derivative(xs: [f64; 4], ys: [f64; 4], at: f64) -> f64
+    ensures { λ r. ⌜ r ≡ lagrangeDerivative binary64 xs ys at ⌝ }
+{
+    let d0 = basis_derivative(xs[0], xs[1], xs[2], xs[3], at);
+    let d1 = basis_derivative(xs[1], xs[0], xs[2], xs[3], at);
+    let d2 = basis_derivative(xs[2], xs[0], xs[1], xs[3], at);
+    let d3 = basis_derivative(xs[3], xs[0], xs[1], xs[2], at);
+    0.0 + ys[0] * d0 + ys[1] * d1 + ys[2] * d2 + ys[3] * d3
+}
+
+pub fn basis_span_weight_derivatives(grid: &[f64], span: usize, x: f64) -> [f64; 4]
+    requires { ⌜ (4 ≤ length (now grid)) × (span + 1 < length (now grid)) ⌝ }
+    ensures { λ r. ⌜ r ≡ basisSpanWeightDerivatives binary64 (now (grid .entry)) span x ⌝ }
+{
+    let xs = span_samples(grid, span);
+    let values = sampled(grid, span, xs);
+    [
+        lagrange_derivative(xs, column(values, 0), x),
+        lagrange_derivative(xs, column(values, 1), x),
+        lagrange_derivative(xs, column(values, 2), x),
+        lagrange_derivative(xs, column(values, 3), x),
+    ]
+}
+
+fn third_divided_difference(xs: [f64; 4], ys: [f64; 4]) -> f64
+    ensures { λ r. ⌜ r ≡ thirdDividedDifference binary64 xs ys ⌝ }
+{
+    let d01 = (ys[1] - ys[0]) / (xs[1] - xs[0]);
+    let d12 = (ys[2] - ys[1]) / (xs[2] - xs[1]);
+    let d23 = (ys[3] - ys[2]) / (xs[3] - xs[2]);
+    let d012 = (d12 - d01) / (xs[2] - xs[0]);
+    let d123 = (d23 - d12) / (xs[3] - xs[1]);
+    (d123 - d012) / (xs[3] - xs[0])
+}
+
+pub fn span_weight_third_derivatives(grid: &[f64], span: usize) -> [f64; 4]
+    requires { ⌜ (4 ≤ length (now grid)) × (span + 1 < length (now grid)) ⌝ }
+    ensures { λ r. ⌜ r ≡ spanWeightThirdDerivatives binary64 (now (grid .entry)) span ⌝ }
+{
+    let xs = span_samples(grid, span);
+    let values = sampled(grid, span, xs);
+    [
+        6.0 * third_divided_difference(xs, column(values, 0)),
+        6.0 * third_divided_difference(xs, column(values, 1)),
+        6.0 * third_divided_difference(xs, column(values, 2)),
+        6.0 * third_divided_difference(xs, column(values, 3)),
+    ]
+}
