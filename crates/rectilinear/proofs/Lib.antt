@@ -1,0 +1,4 @@
+pub mod Rows
+pub mod Axis
+pub mod FitChecks
+pub mod Total

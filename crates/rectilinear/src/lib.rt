@@ -1,0 +1,7 @@
+// Cubic B-spline maps on a rectilinear grid, double precision. After interpn's multibspline::rectilinear.
+mod fit;
+mod line;
+
+pub use fit::coefficients;
+pub use line::solve_checked;
+pub use line::solve_line;
