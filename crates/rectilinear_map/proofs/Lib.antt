@@ -1,0 +1,5 @@
+pub mod Checks
+pub mod Ghosts
+pub mod Places
+pub mod Batches
+pub mod Total

@@ -1,0 +1,58 @@
+use mathlib.Core.Path.{_≡_, refl}
+use native.Mathlib.Omega.{arith}
+use denote.Ref.{now}
+use lib.ListN.{length}
+use lib.Ieee.{binary64}
+use borrow.Author.Needs.{needs}
+use Rattle.shape.specs.declared.answers.Refusal.the-variants.{DimensionMismatch}
+use Rattle.evaluation.proofs.Outcomes.{value-found, one-refused, one-checks, one-length, one-answered}
+use Rattle.rectilinear_map.specs.Eval.{mapAnswer}
+use Rattle.rectilinear_map.proofs.Checks.{map-numbered, told-sound}
+use Rattle.rectilinear_map.proofs.eval.one.Statement.{statement}
+use Rattle.rectilinear_map.proofs.eval.one.Tie as tie
+
+returns : tie.Need-returns
+unfolding mapAnswer
+returns c =
+    let w = c .before .before .before in
+    let a = w .before .before .before .before .args in
+    one-refused _ (now (a .x)) _ (one-checks _ (now (a .x)) (c .before .refusal .given .1) (w .check-map .ensures))
+
+returns-2 : tie.Need-returns-2
+unfolding mapAnswer
+returns-2 c =
+    let t = c .before in
+    let w = t .before .before in
+    let a = w .before .before .before .before .args in
+    one-refused _ (now (a .x)) DimensionMismatch (one-length _ (now (a .x)) (map-numbered (a .count) (a .dims) (now (a .grid)) (length (now (a .coeffs)))) (t .enum-told .given .1) (w .check-map .ensures) (c .if1 .taken))
+
+query-requires : tie.Need-query-requires
+query-requires c κs =
+    let t = c .before in
+    let w = t .before .before in
+    let s = w .before .before .before .before in
+    let a = s .args in
+    let u = told-sound (a .count) (a .dims) (now (a .grid)) (length (now (a .coeffs))) (omega (arith, s .good)) (t .enum-told .given .1) (w .check-map .ensures) in
+    (u .gridded .shape .at-most-four, omega arith, omega (arith, c .if1 .left))
+
+value-at-requires : tie.Need-value-at-requires
+value-at-requires c κs =
+    let t = c .before .before in
+    let w = t .before .before in
+    let s = w .before .before .before .before in
+    let a = s .args in
+    told-sound (a .count) (a .dims) (now (a .grid)) (length (now (a .coeffs))) (omega (arith, s .good)) (t .enum-told .given .1) (w .check-map .ensures)
+
+returns-3 : tie.Need-returns-3
+unfolding mapAnswer
+returns-3 c =
+    let q = c .before in
+    let i = q .before in
+    let t = i .before in
+    let w = t .before .before in
+    let a = w .before .before .before .before .args in
+    one-answered _ (now (a .x)) (map-numbered (a .count) (a .dims) (now (a .grid)) (length (now (a .coeffs)))) (t .enum-told .given .1) (w .check-map .ensures) (i .if1 .left) (value-found _ _ refl (rw (q .query .ensures) at (c .value-at .ensures)))
+
+pub one-spec : {M : Type 1} → statement M
+one-spec =
+    tie.close (tie.spec (λ c κs. search needs) (λ c. search needs) returns (λ c. search needs) returns-2 query-requires value-at-requires returns-3)

@@ -1,0 +1,65 @@
+-- A rectilinear map by its parts, for any format; and what the functions that build one leave. Assumes nothing.
+use mathlib.Core.Bool.{Bool, false}
+use mathlib.Core.List.{List, [], _∷_}
+use Prim.Native.Nat.{ℕ}
+use lib.ListN.{take}
+use lib.Ieee.{Float, Format}
+use Rattle.multibspline.specs.Numbers.{f0}
+use Rattle.shape.specs.Refusal.{answerNumber}
+use Rattle.knots.specs.Joined.{knotsOf}
+use Rattle.rectilinear_weights.specs.declared.ghosts.Ghost.{Ghost}
+use Rattle.rectilinear_weights.specs.Ghosts.{ghostNumbers, lowGhostCoeffs, highGhostCoeffs}
+use Rattle.evaluation.specs.Axes.{perAxis, inUse}
+use Rattle.evaluation.specs.Built.{BuiltFrom}
+use Rattle.rectilinear_map.specs.declared.record.MultiBsplineRectilinear.{MultiBsplineRectilinear}
+use Rattle.rectilinear_map.specs.declared.record.Built.{Built}
+
+-- axis count and four lengths; the ghost numbers of the low and of the high end of each axis, three an end; whether the map
+-- goes on in a straight line outside its grid. The joined grid is lent beside it
+pub record RectilinearMap : Type 0 where
+  pub count : ℕ
+  pub lens : List ℕ
+  pub low : List (List Float)
+  pub high : List (List Float)
+  pub linear : Bool
+
+unfoldable pub ghosts : List Ghost → List (List Float)
+ghosts [] = []
+ghosts (g ∷ gs) = ghostNumbers g ∷ ghosts gs
+
+-- the map that a record of the code stands for
+abbrev pub mapOf : MultiBsplineRectilinear → RectilinearMap
+mapOf r = record { count = r .count; lens = r .dims; low = ghosts (r .«low_ghost_coeffs»); high = ghosts (r .«high_ghost_coeffs»); linear = r .«linearize_extrapolation» }
+
+abbrev pub noGhost : List Float
+noGhost = f0 ∷ f0 ∷ f0 ∷ []
+
+-- the ghost numbers of each axis: those that its knots give
+unfoldable pub lowGhosts : Format → ℕ → List ℕ → List Float → List (List Float)
+lowGhosts f count lens grid = perAxis noGhost count (λ a. lowGhostCoeffs f (knotsOf grid (take count lens) a))
+
+unfoldable pub highGhosts : Format → ℕ → List ℕ → List Float → List (List Float)
+highGhosts f count lens grid = perAxis noGhost count (λ a. highGhostCoeffs f (knotsOf grid (take count lens) a))
+
+-- the map that building makes, and nothing but zeros
+unfoldable pub made : Format → ℕ → List ℕ → List Float → Bool → RectilinearMap
+made f count lens grid linear = record {
+  count = count;
+  lens = inUse 0 0 count lens;
+  low = lowGhosts f count lens grid;
+  high = highGhosts f count lens grid;
+  linear = linear;
+}
+
+abbrev pub blank : RectilinearMap
+blank = record {
+  count = 0;
+  lens = 0 ∷ 0 ∷ 0 ∷ 0 ∷ [];
+  low = noGhost ∷ noGhost ∷ noGhost ∷ noGhost ∷ [];
+  high = noGhost ∷ noGhost ∷ noGhost ∷ noGhost ∷ [];
+  linear = false;
+}
+
+-- a function that builds a map, and answers so
+abbrev pub RectilinearBuilt : Format → ℕ → ℕ → List ℕ → List Float → Bool → Built → Type 0
+RectilinearBuilt f expected count lens grid linear r = BuiltFrom expected (made f count lens grid linear) blank (answerNumber (r .answer)) (mapOf (r .map))

@@ -1,0 +1,46 @@
+-- Demand 1 for the calls on a rectilinear map: when each is accepted. Which refusal is given otherwise is the first check that
+-- fails, by `firstRefusal`; `FirstFails` of shape/specs/Checks.antt says so check by check. Assumes nothing.
+use mathlib.Core.Path.{_≡_}
+use mathlib.Core.Bool.{true}
+use mathlib.Core.Logic.{_↔_}
+use mathlib.Core.List.{List}
+use Prim.Native.Nat.{ℕ, _*_, _%_}
+use lib.ListN.{length, take}
+use lib.Ieee.{Float, Format}
+use Rattle.shape.specs.Shape.{size}
+use Rattle.shape.specs.Usable.{Usable}
+use Rattle.knots.specs.Joined.{total, allRise}
+use Rattle.evaluation.specs.Spline.{oneAnswer, batchAnswer, gradientBatchAnswer}
+use Rattle.rectilinear_map.specs.Map.{RectilinearMap}
+use Rattle.rectilinear_map.specs.Eval.{mapAnswer, rectilinear}
+
+-- a record and a joined grid that are accepted: the shape, the grid's length, knots that rise on every axis
+pub record Gridded (count : ℕ) (lens : List ℕ) (grid : List Float) : Type 0 where
+  pub shape : Usable count lens
+  pub joined : length grid ≡ total (take count lens)
+  pub rising : allRise grid (take count lens) count ≡ true
+
+-- and as many coefficients as there are points
+pub record Sound (count : ℕ) (lens : List ℕ) (grid : List Float) (coefs : ℕ) : Type 0 where
+  pub gridded : Gridded count lens grid
+  pub sized : coefs ≡ size (take count lens)
+
+-- building, and the checks of every call
+abbrev pub MapTotal : Type 0
+MapTotal = (count : ℕ) (lens : List ℕ) (grid : List Float) (coefs : ℕ) → length lens ≡ 4
+    → (mapAnswer count lens grid coefs ≡ 0) ↔ Sound count lens grid coefs
+
+module _ (f : Format) (m : RectilinearMap) (grid coefs : List Float) where
+  -- a single value or gradient: every query is answered
+  abbrev pub OneTotal : Type 0
+  OneTotal = (x : List Float) → length (m .lens) ≡ 4
+      → (oneAnswer (rectilinear f m grid coefs) x ≡ 0) ↔ (Sound (m .count) (m .lens) grid (length coefs) × (length x ≡ m .count))
+
+  -- a batch of values, and one of gradients
+  abbrev pub BatchTotal : Type 0
+  BatchTotal = (xs out : ℕ) → length (m .lens) ≡ 4
+      → (batchAnswer (rectilinear f m grid coefs) xs out ≡ 0) ↔ (Sound (m .count) (m .lens) grid (length coefs) × (xs ≡ m .count * out))
+
+  abbrev pub GradientBatchTotal : Type 0
+  GradientBatchTotal = (xs out : ℕ) → length (m .lens) ≡ 4
+      → (gradientBatchAnswer (rectilinear f m grid coefs) xs out ≡ 0) ↔ (Sound (m .count) (m .lens) grid (length coefs) × (out % m .count ≡ 0) × (xs ≡ out))

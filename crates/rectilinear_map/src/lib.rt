@@ -1,0 +1,13 @@
+// Cubic B-spline maps on a rectilinear grid, double precision: the record, building, values, gradients and batches. After
+// interpn's multibspline::rectilinear.
+mod axis;
+mod batch;
+mod build;
+mod eval;
+mod record;
+
+pub use evaluation::Gradient;
+pub use evaluation::Valued;
+pub use record::Built;
+pub use record::MultiBsplineRectilinear;
+pub use rectilinear_weights::Ghost;

@@ -1,0 +1,163 @@
+// The record of a rectilinear map. It travels by value; its joined grid and its coefficients are lent beside it, and each
+// call looks at all three anew.
+ghost use mathlib.Core.Path.{_≡_};
+ghost use lib.ListN.{length};
+ghost use lib.Ieee.{binary64};
+ghost use Rattle.shape.specs.Checks.{firstRefusal};
+ghost use Rattle.shape.specs.Refusal.{answerNumber};
+ghost use Rattle.rectilinear.specs.Fit.{rectilinearFitChecks, RectilinearFitted};
+ghost use Rattle.evaluation.specs.Spline.{OneValue, OneGradient};
+ghost use Rattle.evaluation.specs.Batch.{ValueBatch, GradientBatch};
+ghost use Rattle.rectilinear_map.specs.Map.{mapOf, RectilinearBuilt};
+ghost use Rattle.rectilinear_map.specs.Eval.{mapAnswer, rectilinear};
+use crate::batch;
+use crate::build;
+use crate::eval;
+use evaluation::Gradient;
+use evaluation::Valued;
+use rectilinear_weights::Ghost;
+use shape::Answer;
+use shape::Shape;
+
+// Entries for axes not in use are not looked at; building sets them to zero.
+pub struct MultiBsplineRectilinear {
+    pub count: usize,
+    pub dims: [usize; 4],
+    // the ghost numbers of the low end of each axis
+    pub low_ghost_coeffs: [Ghost; 4],
+    // those of the high end
+    pub high_ghost_coeffs: [Ghost; 4],
+    // whether the map goes on in a straight line outside its grid
+    pub linearize_extrapolation: bool,
+}
+
+// The answer of a function that builds a map, and the map: nothing but zeros where it is refused.
+pub struct Built {
+    pub answer: Answer,
+    pub map: MultiBsplineRectilinear,
+}
+
+// The joined grid is one slice: the knots of axis 0, then those of axis 1, and so on.
+impl MultiBsplineRectilinear {
+    // The value at a query of one coordinate an axis, or the first of these refusals: 1, 2, 3 for the record's shape; 2, the
+    // length of the joined grid; 2, the length of the coefficients; 5, a knot not above the one before it; 2, the number of
+    // coordinates. No coordinate is refused; at a NaN the arithmetic gives what it gives.
+    pub fn interp_one(self, grid: &[f64], coeffs: &[f64], x: &[f64]) -> Valued
+        ensures { λ r. ⌜ OneValue (rectilinear binary64 (mapOf self) (now (grid .entry)) (now (coeffs .entry))) (now (x .entry)) r ⌝ }
+    {
+        let dims = self.dims;
+        let low = self.low_ghost_coeffs;
+        let high = self.high_ghost_coeffs;
+        eval::one(
+            self.count,
+            dims,
+            low,
+            high,
+            self.linearize_extrapolation,
+            grid,
+            coeffs,
+            x,
+        )
+    }
+
+    // The gradient at a query, with the refusals of interp_one.
+    pub fn interp_one_grad(self, grid: &[f64], coeffs: &[f64], x: &[f64]) -> Gradient
+        ensures { λ r. ⌜ OneGradient (rectilinear binary64 (mapOf self) (now (grid .entry)) (now (coeffs .entry))) (now (x .entry)) (answerNumber (r .answer)) (r .parts) ⌝ }
+    {
+        let dims = self.dims;
+        let low = self.low_ghost_coeffs;
+        let high = self.high_ghost_coeffs;
+        eval::one_grad(
+            self.count,
+            dims,
+            low,
+            high,
+            self.linearize_extrapolation,
+            grid,
+            coeffs,
+            x,
+        )
+    }
+
+    // Values at a batch of queries, axis after axis: `out.len()` coordinates of axis 0, then those of axis 1, and so on. The
+    // refusals of interp_one, 2 where the numbers of coordinates and outputs disagree. A refusal leaves `out` as it was.
+    pub fn interp(self, grid: &[f64], coeffs: &[f64], x: &[f64], out: &mut [f64]) -> Answer
+        ensures { λ r. ⌜ ValueBatch (rectilinear binary64 (mapOf self) (now (grid .entry)) (now (coeffs .entry))) (now (x .entry)) (now (out .entry)) (answerNumber r) (now (out .exit)) ⌝ }
+    {
+        let dims = self.dims;
+        let low = self.low_ghost_coeffs;
+        let high = self.high_ghost_coeffs;
+        batch::values(
+            self.count,
+            dims,
+            low,
+            high,
+            self.linearize_extrapolation,
+            grid,
+            coeffs,
+            x,
+            out,
+        )
+    }
+
+    // Gradients at a batch of queries, both axis after axis: of n entries, part k of entry i at k n + i. As `interp`; 2 also
+    // where the length of `out` is no multiple of the axis count.
+    pub fn interp_grad(self, grid: &[f64], coeffs: &[f64], x: &[f64], out: &mut [f64]) -> Answer
+        ensures { λ r. ⌜ GradientBatch (rectilinear binary64 (mapOf self) (now (grid .entry)) (now (coeffs .entry))) (now (x .entry)) (now (out .entry)) (answerNumber r) (now (out .exit)) ⌝ }
+    {
+        let dims = self.dims;
+        let low = self.low_ghost_coeffs;
+        let high = self.high_ghost_coeffs;
+        batch::gradients(
+            self.count,
+            dims,
+            low,
+            high,
+            self.linearize_extrapolation,
+            grid,
+            coeffs,
+            x,
+            out,
+        )
+    }
+
+    // A map from its coefficients, or the first of these refusals: 1, 2, 3 for the shape; 2, the length of the joined grid;
+    // 2, the length of `coeffs`; 5, a knot not above the one before it.
+    pub fn new(shape: Shape, grid: &[f64], coeffs: &[f64], linearize_extrapolation: bool) -> Built
+        ensures { λ r. ⌜ RectilinearBuilt binary64 (mapAnswer (shape .count) (shape .dims) (now (grid .entry)) (length (now (coeffs .entry)))) (shape .count) (shape .dims) (now (grid .entry)) «linearize_extrapolation» r ⌝ }
+    {
+        let dims = shape.dims;
+        build::build(
+            shape.count,
+            dims,
+            grid,
+            linearize_extrapolation,
+            coeffs.len(),
+        )
+    }
+
+    // Fits the values, then builds the map. The refusals of the fit, with `coeffs` and `scratch` untouched; a map whose fit
+    // is accepted is not refused.
+    pub fn from_values_with_workspace(
+        shape: Shape,
+        grid: &[f64],
+        vals: &[f64],
+        coeffs: &mut [f64],
+        scratch: &mut [f64],
+        linearize_extrapolation: bool,
+    ) -> Built
+        ensures { λ r. ⌜ RectilinearBuilt binary64 (firstRefusal (rectilinearFitChecks (shape .count) (shape .dims) (now (grid .entry)) (length (now (vals .entry))) (length (now (coeffs .entry))) (length (now (scratch .entry))))) (shape .count) (shape .dims) (now (grid .entry)) «linearize_extrapolation» r ⌝ }
+        ensures { λ r. ⌜ RectilinearFitted binary64 (shape .count) (shape .dims) (now (grid .entry)) (now (vals .entry)) (now (coeffs .entry)) (now (scratch .entry)) (answerNumber (r .answer)) (now (coeffs .exit)) (now (scratch .exit)) ⌝ }
+    {
+        let dims = shape.dims;
+        build::from_values(
+            shape.count,
+            dims,
+            grid,
+            linearize_extrapolation,
+            vals,
+            coeffs,
+            scratch,
+        )
+    }
+}
