@@ -1,0 +1,6 @@
+pub mod Tests
+pub mod Bytes
+pub mod Answers
+pub mod DueMeans
+pub mod OneCall
+pub mod Order

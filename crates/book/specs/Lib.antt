@@ -1,0 +1,4 @@
+pub mod LineCall
+pub mod Book
+pub mod Due
+pub mod Order

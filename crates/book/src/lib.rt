@@ -1,0 +1,1 @@
+// Stepwise fitting and its book: definitions and laws. The functions come with the grids.
