@@ -1,0 +1,1 @@
+// The checked points of the scope: laws only, proofs/Points.antt.
