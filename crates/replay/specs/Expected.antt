@@ -32,8 +32,9 @@ isUntouched coefs scratch =
 abbrev pub lens : List ℕ → List ℕ
 lens numbers = getD numbers 1 0 ∷ getD numbers 2 0 ∷ getD numbers 3 0 ∷ getD numbers 4 0 ∷ []
 
--- a fit is as a record of this kind expects: a published figure has near coefficients, any other fit the same bits
-pub record MatchFit (kind tolerance : ℕ) (text : List ℕ) (samples : ℕ) (coefs scratch : List Float) : Type 0 where
-  pub near : kind ≡ 3 → MatchWords (isNear (float tolerance)) text (10 + samples) coefs
-  pub same : (kind ≡ 3 → ⊥) → MatchWords sameBits text (10 + samples) coefs
-  pub left : (kind ≡ 3 → ⊥) → MatchWords sameBits text (10 + samples + length coefs) scratch
+-- a fit is as a record of this kind expects, coefficients from word `first` on: a published figure has near ones, any other fit
+-- the same bits, in scratch too
+pub record MatchFit (kind tolerance : ℕ) (text : List ℕ) (first : ℕ) (coefs scratch : List Float) : Type 0 where
+  pub near : kind ≡ 3 → MatchWords (isNear (float tolerance)) text first coefs
+  pub same : (kind ≡ 3 → ⊥) → MatchWords sameBits text first coefs
+  pub left : (kind ≡ 3 → ⊥) → MatchWords sameBits text (first + length coefs) scratch

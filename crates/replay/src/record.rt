@@ -1,26 +1,18 @@
 // One record of the list: the call that it asks for, and what it expects.
 ghost use mathlib.Core.Path.{_≡_};
-ghost use Prim.Native.Nat.{_≤_};
+ghost use Prim.Native.Nat.{_≤_, _<_};
 ghost use lib.ListN.{length, getD};
 ghost use lib.Ieee.{binary64};
 ghost use Rattle.float_text.specs.Bits.{sameBits};
 ghost use Rattle.oracle_list.specs.Words.{MatchWords};
-ghost use Rattle.regular.specs.Fit.{Fitted};
+ghost use Rattle.regular.specs.Fit.{RegularFitted};
+ghost use Rattle.rectilinear.specs.Fit.{RectilinearFitted};
 ghost use Rattle.replay.specs.Expected.{lens, MatchFit, isUntouched};
 ghost use Rattle.shape.specs.Refusal.{answerNumber};
 use oracle_list::Compared;
+use oracle_run::Outcome;
 use shape::Answer;
 use shape::Shape;
-
-// What came of a record. A bool says whether all was as the record expects.
-pub enum Outcome {
-    // the list has no more records
-    End,
-    Unreadable,
-    Fit(bool),
-    Refused(bool),
-    Published(bool),
-}
 
 fn size(bits: u64) -> usize
     ensures { λ n. ⌜ n ≡ bits ⌝ }
@@ -28,10 +20,10 @@ fn size(bits: u64) -> usize
     bits as usize
 }
 
-// The call under test. `numbers` are those of the record, of which the first five are the shape.
-fn fit(numbers: &[u64], samples: &[f64], coeffs: &mut [f64], scratch: &mut [f64]) -> Answer
-    requires { ⌜ length (now numbers) ≡ 10 ⌝ }
-    ensures { λ r. ⌜ Fitted binary64 (getD (now (numbers .entry)) 0 0) (lens (now (numbers .entry))) (now (samples .entry)) (now (coeffs .entry)) (now (scratch .entry)) (answerNumber r) (now (coeffs .exit)) (now (scratch .exit)) ⌝ }
+// The shape among the numbers of a record: its first five.
+fn shape_of(numbers: &[u64]) -> Shape
+    requires { ⌜ length (now numbers) ≡ 11 ⌝ }
+    ensures { λ r. ⌜ (r .count ≡ getD (now (numbers .entry)) 0 0) × (r .dims ≡ lens (now (numbers .entry))) ⌝ }
 {
     let dims = [
         size(numbers[1]),
@@ -39,11 +31,52 @@ fn fit(numbers: &[u64], samples: &[f64], coeffs: &mut [f64], scratch: &mut [f64]
         size(numbers[3]),
         size(numbers[4]),
     ];
-    let shape = Shape {
+    Shape {
         count: size(numbers[0]),
         dims: dims,
-    };
+    }
+}
+
+// The calls under test.
+fn fit_regular(numbers: &[u64], samples: &[f64], coeffs: &mut [f64], scratch: &mut [f64]) -> Answer
+    requires { ⌜ length (now numbers) ≡ 11 ⌝ }
+    ensures { λ r. ⌜ RegularFitted binary64 (getD (now (numbers .entry)) 0 0) (lens (now (numbers .entry))) (now (samples .entry)) (now (coeffs .entry)) (now (scratch .entry)) (answerNumber r) (now (coeffs .exit)) (now (scratch .exit)) ⌝ }
+{
+    let shape = shape_of(numbers);
     regular::coefficients(shape, samples, coeffs, scratch)
+}
+
+fn fit_rectilinear(
+    numbers: &[u64],
+    grid: &[f64],
+    samples: &[f64],
+    coeffs: &mut [f64],
+    scratch: &mut [f64],
+) -> Answer
+    requires { ⌜ length (now numbers) ≡ 11 ⌝ }
+    ensures { λ r. ⌜ RectilinearFitted binary64 (getD (now (numbers .entry)) 0 0) (lens (now (numbers .entry))) (now (grid .entry)) (now (samples .entry)) (now (coeffs .entry)) (now (scratch .entry)) (answerNumber r) (now (coeffs .exit)) (now (scratch .exit)) ⌝ }
+{
+    let shape = shape_of(numbers);
+    rectilinear::coefficients(shape, grid, samples, coeffs, scratch)
+}
+
+// Kinds from 6 on are rectilinear.
+fn fit(
+    kind: u64,
+    numbers: &[u64],
+    grid: &[f64],
+    samples: &[f64],
+    coeffs: &mut [f64],
+    scratch: &mut [f64],
+) -> Answer
+    requires { ⌜ length (now numbers) ≡ 11 ⌝ }
+    ensures { λ r. ⌜ (kind < 6 → RegularFitted binary64 (getD (now (numbers .entry)) 0 0) (lens (now (numbers .entry))) (now (samples .entry)) (now (coeffs .entry)) (now (scratch .entry)) (answerNumber r) (now (coeffs .exit)) (now (scratch .exit))) ⌝ }
+    ensures { λ r. ⌜ (6 ≤ kind → RectilinearFitted binary64 (getD (now (numbers .entry)) 0 0) (lens (now (numbers .entry))) (now (grid .entry)) (now (samples .entry)) (now (coeffs .entry)) (now (scratch .entry)) (answerNumber r) (now (coeffs .exit)) (now (scratch .exit))) ⌝ }
+{
+    if kind < 6 {
+        return fit_regular(numbers, samples, coeffs, scratch);
+    }
+    fit_rectilinear(numbers, grid, samples, coeffs, scratch)
 }
 
 // The buffers after an accepted call, to the bit: coefficients from word `first` on, scratch from word `second` on.
@@ -66,20 +99,19 @@ fn compare_both(
     }
 }
 
-// A published figure, whose scratch is not compared, or a fit.
+// A published figure, whose scratch is not compared, or a fit: coefficients from word `first` on, and scratch after them.
 fn compare_fit(
     kind: u64,
     tolerance: u64,
     text: &[u8],
-    samples: usize,
+    first: usize,
     coeffs: &[f64],
     scratch: &[f64],
     spare: &mut [f64],
 ) -> Compared
-    requires { ⌜ (samples ≤ 2048) × (length (now coeffs) ≤ 2048) ⌝ }
-    ensures { λ r. ⌜ (r ≡ Compared.Same → MatchFit kind tolerance (now (text .entry)) samples (now (coeffs .entry)) (now (scratch .entry))) ⌝ }
+    requires { ⌜ (first ≤ 8192) × (length (now coeffs) ≤ 2048) ⌝ }
+    ensures { λ r. ⌜ (r ≡ Compared.Same → MatchFit kind tolerance (now (text .entry)) first (now (coeffs .entry)) (now (scratch .entry))) ⌝ }
 {
-    let first = 10 + samples;
     let second = first + coeffs.len();
     if kind == 3 {
         return oracle_list::compare_near(
@@ -103,19 +135,47 @@ fn is_untouched(coeffs: &[f64], scratch: &[f64]) -> bool
     false
 }
 
+// The counts of the program: fits, refused calls, published figures.
+fn fitted(is_same: bool) -> Outcome {
+    Outcome::Replayed {
+        first: 1,
+        second: 0,
+        third: 0,
+        is_same: is_same,
+    }
+}
+
+fn refused(is_same: bool) -> Outcome {
+    Outcome::Replayed {
+        first: 0,
+        second: 1,
+        third: 0,
+        is_same: is_same,
+    }
+}
+
+fn published(is_same: bool) -> Outcome {
+    Outcome::Replayed {
+        first: 0,
+        second: 0,
+        third: 1,
+        is_same: is_same,
+    }
+}
+
 // A call that is to be refused: whether it was, with the right number, and left both buffers as they were.
 fn judge_refusal(is_number_right: bool, coeffs: &[f64], scratch: &[f64]) -> Outcome {
     if !is_number_right {
-        return Outcome::Refused(false);
+        return refused(false);
     }
-    Outcome::Refused(is_untouched(coeffs, scratch))
+    refused(is_untouched(coeffs, scratch))
 }
 
 fn judge(kind: u64, is_same: bool) -> Outcome {
     if kind == 3 {
-        return Outcome::Published(is_same);
+        return published(is_same);
     }
-    Outcome::Fit(is_same)
+    fitted(is_same)
 }
 
 fn judge_fit(kind: u64, compared: Compared) -> Outcome {
@@ -126,55 +186,141 @@ fn judge_fit(kind: u64, compared: Compared) -> Outcome {
     }
 }
 
-// Runs the call on buffers of the lengths that the record asks for, and compares.
+// Runs the call on buffers of the lengths that the record asks for, and compares with the words from word `first` on.
 fn replay_call(
     kind: u64,
     text: &[u8],
     numbers: &[u64],
-    samples: &mut [f64],
+    first: usize,
+    grid: &[f64],
+    samples: &[f64],
     coeffs: &mut [f64],
     scratch: &mut [f64],
     spare: &mut [f64],
 ) -> Outcome
-    requires { ⌜ (length (now numbers) ≡ 10) × (length (now samples) ≤ 2048) × (length (now coeffs) ≤ 2048) ⌝ }
+    requires { ⌜ (length (now numbers) ≡ 11) × (first ≤ 8192) × (length (now coeffs) ≤ 2048) ⌝ }
 {
-    if !oracle_list::read_floats(text, 10, samples) {
-        return Outcome::Unreadable;
-    }
     oracle_list::fill(0.5, 1.0, coeffs);
     oracle_list::fill(-0.25, -1.0, scratch);
-    let answer = fit(numbers, samples, coeffs, scratch).number();
-    let wanted = numbers[8];
+    let answer = fit(kind, numbers, grid, samples, coeffs, scratch).number();
+    let wanted = numbers[9];
     if wanted != 0 {
         return judge_refusal(answer == wanted, coeffs, scratch);
     }
     if answer != 0 {
         return judge(kind, false);
     }
-    let compared = compare_fit(
-        kind,
-        numbers[9],
-        text,
-        samples.len(),
-        coeffs,
-        scratch,
-        spare,
-    );
+    let compared = compare_fit(kind, numbers[10], text, first, coeffs, scratch, spare);
     judge_fit(kind, compared)
 }
 
-// Whether a record has as many words as its numbers say.
-fn is_whole(words: usize, samples: usize, coeffs: usize, scratch: usize, answer: u64) -> bool
-    requires { ⌜ (samples ≤ 2048) × (coeffs ≤ 2048) × (scratch ≤ 2048) ⌝ }
+// Whether a record has as many words as its numbers say: after word `first` what an accepted call leaves.
+fn is_whole(words: usize, first: usize, coeffs: usize, scratch: usize, answer: u64) -> bool
+    requires { ⌜ (first ≤ 8192) × (coeffs ≤ 2048) × (scratch ≤ 2048) ⌝ }
 {
     if answer == 0 {
-        return words == 10 + samples + coeffs + scratch;
+        return words == first + coeffs + scratch;
     }
-    words == 10 + samples
+    words == first
 }
 
-// Whether a record of this kind may have this answer.
-fn is_kind(kind: u64, answer: u64) -> bool {
+// Reads knots and samples, as many as the buffers hold, and replays.
+fn replay_sized(
+    kind: u64,
+    text: &[u8],
+    numbers: &[u64],
+    grid: &mut [f64],
+    samples: &mut [f64],
+    coeffs: &mut [f64],
+    scratch: &mut [f64],
+    spare: &mut [f64],
+) -> Outcome
+    requires { ⌜ (length (now numbers) ≡ 11) × (length (now grid) ≤ 2048) × (length (now samples) ≤ 2048) ⌝ }
+    requires { ⌜ (length (now coeffs) ≤ 2048) × (length (now scratch) ≤ 2048) ⌝ }
+{
+    let second = 11 + grid.len();
+    let first = second + samples.len();
+    if !is_whole(
+        text.len() / 17,
+        first,
+        coeffs.len(),
+        scratch.len(),
+        numbers[9],
+    ) {
+        return Outcome::Unreadable;
+    }
+    if !oracle_list::read_floats(text, 11, grid) {
+        return Outcome::Unreadable;
+    }
+    if !oracle_list::read_floats(text, second, samples) {
+        return Outcome::Unreadable;
+    }
+    replay_call(
+        kind,
+        text,
+        numbers,
+        first,
+        grid,
+        samples,
+        coeffs,
+        scratch,
+        spare,
+    )
+}
+
+// Replays a record whose numbers have been read.
+fn replay_numbers(
+    kind: u64,
+    text: &[u8],
+    numbers: &[u64],
+    grid: &mut [f64],
+    samples: &mut [f64],
+    coeffs: &mut [f64],
+    scratch: &mut [f64],
+    spare: &mut [f64],
+) -> Outcome
+    requires { ⌜ (length (now numbers) ≡ 11) × (length (now grid) ≤ 2048) × (length (now samples) ≤ 2048) ⌝ }
+    requires { ⌜ (length (now coeffs) ≤ 2048) × (length (now scratch) ≤ 2048) ⌝ }
+{
+    let g = size(numbers[5]);
+    let s = size(numbers[6]);
+    let c = size(numbers[7]);
+    let w = size(numbers[8]);
+    if g > grid.len() {
+        return Outcome::Unreadable;
+    }
+    if s > samples.len() {
+        return Outcome::Unreadable;
+    }
+    if c > coeffs.len() {
+        return Outcome::Unreadable;
+    }
+    if w > scratch.len() {
+        return Outcome::Unreadable;
+    }
+    replay_sized(
+        kind,
+        text,
+        numbers,
+        &mut grid[..g],
+        &mut samples[..s],
+        &mut coeffs[..c],
+        &mut scratch[..w],
+        spare,
+    )
+}
+
+// Whether a record of this kind may have this many knots and this answer.
+fn is_kind(kind: u64, knots: u64, answer: u64) -> bool {
+    if kind == 6 {
+        return true;
+    }
+    if kind == 7 {
+        return answer != 0;
+    }
+    if knots != 0 {
+        return false;
+    }
     if kind == 1 {
         return true;
     }
@@ -187,63 +333,25 @@ fn is_kind(kind: u64, answer: u64) -> bool {
     false
 }
 
-// Replays a record whose numbers have been read.
-fn replay_numbers(
-    kind: u64,
-    text: &[u8],
-    numbers: &[u64],
-    samples: &mut [f64],
-    coeffs: &mut [f64],
-    scratch: &mut [f64],
-    spare: &mut [f64],
-) -> Outcome
-    requires { ⌜ length (now numbers) ≡ 10 ⌝ }
-    requires { ⌜ (length (now samples) ≤ 2048) × (length (now coeffs) ≤ 2048) × (length (now scratch) ≤ 2048) ⌝ }
-{
-    let s = size(numbers[5]);
-    let c = size(numbers[6]);
-    let w = size(numbers[7]);
-    if s > samples.len() {
-        return Outcome::Unreadable;
-    }
-    if c > coeffs.len() {
-        return Outcome::Unreadable;
-    }
-    if w > scratch.len() {
-        return Outcome::Unreadable;
-    }
-    if !is_whole(text.len() / 17, s, c, w, numbers[8]) {
-        return Outcome::Unreadable;
-    }
-    replay_call(
-        kind,
-        text,
-        numbers,
-        &mut samples[..s],
-        &mut coeffs[..c],
-        &mut scratch[..w],
-        spare,
-    )
-}
-
-// Replays a record from its third word on: its ten numbers, then its floats.
+// Replays a record from its third word on: its eleven numbers, then its floats.
 pub fn replay(
     kind: u64,
     text: &[u8],
-    numbers: &mut [u64],
+    grid: &mut [f64],
     samples: &mut [f64],
     coeffs: &mut [f64],
     scratch: &mut [f64],
     spare: &mut [f64],
 ) -> Outcome
-    requires { ⌜ length (now numbers) ≡ 10 ⌝ }
-    requires { ⌜ (length (now samples) ≤ 2048) × (length (now coeffs) ≤ 2048) × (length (now scratch) ≤ 2048) ⌝ }
+    requires { ⌜ (length (now grid) ≤ 2048) × (length (now samples) ≤ 2048) ⌝ }
+    requires { ⌜ (length (now coeffs) ≤ 2048) × (length (now scratch) ≤ 2048) ⌝ }
 {
-    if !oracle_list::read_numbers(text, numbers) {
+    let mut numbers = [0u64; 11];
+    if !oracle_list::read_numbers(text, &mut numbers) {
         return Outcome::Unreadable;
     }
-    if !is_kind(kind, numbers[8]) {
+    if !is_kind(kind, numbers[5], numbers[9]) {
         return Outcome::Unreadable;
     }
-    replay_numbers(kind, text, numbers, samples, coeffs, scratch, spare)
+    replay_numbers(kind, text, &numbers, grid, samples, coeffs, scratch, spare)
 }

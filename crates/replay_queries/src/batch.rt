@@ -1,82 +1,36 @@
 // The two batches of a record: their answers, what they write, and what they leave.
 ghost use mathlib.Core.Path.{_≡_};
 ghost use Prim.Native.Nat.{_≤_};
-ghost use lib.ListN.{length};
-use crate::map::map_of;
-use crate::map::size;
+ghost use lib.ListN.{length, getD};
+ghost use Rattle.replay_queries.specs.Expected.{unwritten, MatchPart, MatchParts};
+use crate::call;
+use crate::call::size;
+use crate::compare::compare_part;
+use crate::compare::compare_parts;
 use oracle_list::Compared;
 
-// The cells of an output against those that are wanted.
-fn judge(out: &[f64], wanted: &[f64]) -> Compared {
-    if oracle_list::same_cells(out, wanted) {
-        return Compared::Same;
-    }
-    Compared::Differs
-}
-
-// Words from word `first` on are read into `written` cells from place `at` on. Whether they could be.
-fn read_part(text: &[u8], first: usize, at: usize, written: usize, wanted: &mut [f64]) -> bool
-    requires { ⌜ (at ≤ 8192) × (written ≤ 1024) ⌝ }
-{
-    let end = at + written;
-    if end > wanted.len() {
-        return false;
-    }
-    if written == 0 {
-        return true;
-    }
-    oracle_list::read_floats(text, first, &mut wanted[at..end])
-}
-
-// The same for each axis: its words and its cells stand n after those of the axis before.
-fn read_parts(
-    text: &[u8],
-    first: usize,
-    n: usize,
-    count: usize,
-    written: usize,
-    wanted: &mut [f64],
-) -> bool
-    requires { ⌜ (first ≤ 8192) × (n ≤ 1024) × (count ≤ 4) × (written ≤ 1024) ⌝ }
-{
-    let mut at: usize = 0;
-    let mut k: usize = 0;
-    while k < count {
-        if !read_part(text, first + at, at, written, wanted) {
-            return false;
-        }
-        at += n;
-        k += 1;
-    }
-    true
-}
-
-// The values: the batch's answer, the cells that it writes, and the others, which it leaves.
+// The values, on an output of the length that the record asks for. `before` is a buffer of that length.
 pub fn values(
     text: &[u8],
     numbers: &[u64],
     first: usize,
+    grid: &[f64],
     coeffs: &[f64],
     xs: &[f64],
     out: &mut [f64],
-    wanted: &mut [f64],
+    before: &mut [f64],
+    spare: &mut [f64],
 ) -> Compared
-    requires { ⌜ length (now numbers) ≡ 22 ⌝ }
+    requires { ⌜ length (now numbers) ≡ 16 ⌝ }
+    ensures { λ r. ⌜ (r ≡ Compared.Same → MatchPart (now (text .entry)) first (getD (now (numbers .entry)) 12 0) (now (out .exit)) (unwritten (length (now (before .entry))))) ⌝ }
 {
     oracle_list::fill(0.5, 1.0, out);
-    let answer = map_of(numbers).interp(coeffs, xs, out).number();
-    if answer != numbers[18] {
+    oracle_list::fill(0.5, 1.0, before);
+    let answer = call::values(numbers, grid, coeffs, xs, out);
+    if answer != numbers[11] {
         return Compared::Differs;
     }
-    let written = numbers[19];
-    if written > 1024 {
-        return Compared::Unreadable;
-    }
-    oracle_list::fill(0.5, 1.0, wanted);
-    if !read_part(text, first, 0, size(written), wanted) {
-        return Compared::Unreadable;
-    }
-    judge(out, wanted)
+    compare_part(text, first, size(numbers[12]), out, before, spare)
 }
 
 // The gradients likewise, of n queries on `count` axes.
@@ -84,27 +38,23 @@ pub fn gradients(
     text: &[u8],
     numbers: &[u64],
     first: usize,
-    n: usize,
     count: usize,
+    n: usize,
+    grid: &[f64],
     coeffs: &[f64],
     xs: &[f64],
     out: &mut [f64],
-    wanted: &mut [f64],
+    before: &mut [f64],
+    spare: &mut [f64],
 ) -> Compared
-    requires { ⌜ (length (now numbers) ≡ 22) × (first ≤ 8192) × (n ≤ 1024) × (count ≤ 4) ⌝ }
+    requires { ⌜ (length (now numbers) ≡ 16) × (first ≤ 8192) × (count ≤ 4) × (n ≤ 1024) ⌝ }
+    ensures { λ r. ⌜ (r ≡ Compared.Same → MatchParts (now (text .entry)) first count n (getD (now (numbers .entry)) 14 0) (now (out .exit)) (unwritten (length (now (before .entry))))) ⌝ }
 {
     oracle_list::fill(0.5, 1.0, out);
-    let answer = map_of(numbers).interp_grad(coeffs, xs, out).number();
-    if answer != numbers[20] {
+    oracle_list::fill(0.5, 1.0, before);
+    let answer = call::gradients(numbers, grid, coeffs, xs, out);
+    if answer != numbers[13] {
         return Compared::Differs;
     }
-    let written = numbers[21];
-    if written > 1024 {
-        return Compared::Unreadable;
-    }
-    oracle_list::fill(0.5, 1.0, wanted);
-    if !read_parts(text, first, n, count, size(written), wanted) {
-        return Compared::Unreadable;
-    }
-    judge(out, wanted)
+    compare_parts(text, first, count, n, size(numbers[14]), out, before, spare)
 }

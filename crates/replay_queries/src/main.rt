@@ -1,119 +1,47 @@
-// Replays the list of queries on regular maps in queries.txt: runs each batch and each query, compares what they answer and
-// leave with what the list says, and prints how many there were and how many records differ. The list comes from the folder oracle/, whose README describes it.
+// Replays the list of queries on maps in queries.txt: runs each batch and each query, compares what they answer and leave with
+// what the list says, and prints how many there were and how many records differ. The list comes from the folder oracle/, whose
+// README describes it.
 mod batch;
-mod map;
+mod call;
+mod compare;
 mod ones;
 mod record;
-mod tally;
 
-ghost use Prim.Native.Nat.{_≤_};
-ghost use lib.ListN.{length};
 use libc::STDOUT_FILENO;
-use oracle_list::Head;
-use record::Outcome;
-use tally::Tally;
+use oracle_run::Next;
+use oracle_run::Outcome;
+use oracle_run::Tally;
 
 // A list with more records than this is not read to its end, and so counts as unreadable.
 const MOST_RECORDS: usize = 1000000;
-
-// Reads `text` full. Whether there was enough to read.
-fn fill_from(fd: i32, text: &mut [u8]) -> bool {
-    io::read_full(fd, text) == text.len()
-}
-
-// Reads the rest of a record, as many bytes as `text` has, and replays it.
-fn replay_text(
-    fd: i32,
-    kind: u64,
-    text: &mut [u8],
-    coeffs: &mut [f64],
-    xs: &mut [f64],
-    out: &mut [f64],
-    answers: &mut [f64],
-    values: &mut [f64],
-    wanted: &mut [f64],
-) -> Outcome
-    requires { ⌜ (length (now coeffs) ≤ 1024) × (length (now xs) ≤ 1024) ⌝ }
-{
-    if !fill_from(fd, text) {
-        return Outcome::Unreadable;
-    }
-    record::replay(kind, text, coeffs, xs, out, answers, values, wanted)
-}
-
-// Replays a record whose first two words have been read: its kind, and how many words follow.
-fn replay_rest(
-    fd: i32,
-    kind: u64,
-    count: u64,
-    text: &mut [u8],
-    coeffs: &mut [f64],
-    xs: &mut [f64],
-    out: &mut [f64],
-    answers: &mut [f64],
-    values: &mut [f64],
-    wanted: &mut [f64],
-) -> Outcome
-    requires { ⌜ (length (now coeffs) ≤ 1024) × (length (now xs) ≤ 1024) ⌝ }
-{
-    if count > 3584 {
-        return Outcome::Unreadable;
-    }
-    let n = count as usize * 17;
-    if n > text.len() {
-        return Outcome::Unreadable;
-    }
-    replay_text(
-        fd,
-        kind,
-        &mut text[..n],
-        coeffs,
-        xs,
-        out,
-        answers,
-        values,
-        wanted,
-    )
-}
 
 // Reads the next record and replays it.
 fn replay_next(
     fd: i32,
     text: &mut [u8],
-    coeffs: &mut [f64],
-    xs: &mut [f64],
+    floats: &mut [f64],
     out: &mut [f64],
+    before: &mut [f64],
     answers: &mut [f64],
     values: &mut [f64],
-    wanted: &mut [f64],
-) -> Outcome
-    requires { ⌜ (length (now coeffs) ≤ 1024) × (length (now xs) ≤ 1024) ⌝ }
-{
-    let mut head = [0u8; 34];
-    let got = io::read_full(fd, &mut head);
-    if got == 0 {
-        return Outcome::End;
-    }
-    if got < 34 {
-        return Outcome::Unreadable;
-    }
-    let first = oracle_list::first_two(&head);
-    match first {
-        Head::Is { kind, count } => {
-            replay_rest(
-                fd,
+    spare: &mut [f64],
+) -> Outcome {
+    let next = oracle_run::next_record(fd, text);
+    match next {
+        Next::Record { kind, bytes } => {
+            record::replay(
                 kind,
-                count,
-                text,
-                coeffs,
-                xs,
+                &text[..bytes],
+                floats,
                 out,
+                before,
                 answers,
                 values,
-                wanted,
+                spare,
             )
         }
-        Head::Unreadable => Outcome::Unreadable,
+        Next::End => Outcome::End,
+        Next::Unreadable => Outcome::Unreadable,
     }
 }
 
@@ -121,20 +49,18 @@ fn replay_next(
 fn replay_all(
     fd: i32,
     text: &mut [u8],
-    coeffs: &mut [f64],
-    xs: &mut [f64],
+    floats: &mut [f64],
     out: &mut [f64],
+    before: &mut [f64],
     answers: &mut [f64],
     values: &mut [f64],
-    wanted: &mut [f64],
-) -> Tally
-    requires { ⌜ (length (now coeffs) ≤ 1024) × (length (now xs) ≤ 1024) ⌝ }
-{
+    spare: &mut [f64],
+) -> Tally {
     let mut tally = Tally::new();
     let mut left = MOST_RECORDS;
     while left > 0 {
         left -= 1;
-        let outcome = replay_next(fd, text, coeffs, xs, out, answers, values, wanted);
+        let outcome = replay_next(fd, text, floats, out, before, answers, values, spare);
         tally = tally.with(outcome);
         if !tally.is_going {
             return tally;
@@ -152,22 +78,22 @@ fn main() {
         return;
     }
     let mut text = [0u8; 60928];
-    let mut coeffs = [0.0f64; 1024];
-    let mut xs = [0.0f64; 1024];
+    let mut floats = [0.0f64; 3072];
     let mut out = [0.0f64; 1024];
+    let mut before = [0.0f64; 1024];
     let mut answers = [0.0f64; 1024];
     let mut values = [0.0f64; 1024];
-    let mut wanted = [0.0f64; 1024];
+    let mut spare = [0.0f64; 1024];
     let tally = replay_all(
         fd,
         &mut text,
-        &mut coeffs,
-        &mut xs,
+        &mut floats,
         &mut out,
+        &mut before,
         &mut answers,
         &mut values,
-        &mut wanted,
+        &mut spare,
     );
     libc::close(fd);
-    tally.print();
+    tally.print(b"maps,", b"queries,", b"refused,");
 }

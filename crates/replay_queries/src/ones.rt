@@ -2,7 +2,7 @@
 ghost use mathlib.Core.Path.{_≡_};
 ghost use Prim.Native.Nat.{_≤_, _<_, _+_};
 ghost use lib.ListN.{length};
-use crate::map::map_of;
+use crate::call;
 use float_text::float_of;
 use regular_map::Valued;
 
@@ -36,8 +36,25 @@ fn one_of(valued: Valued) -> One {
     }
 }
 
-// The number of both answers of a query; where they differ, one that is no answer's.
-fn joined(value: u64, gradient: u64) -> u64 {
+// Whether the parts of a gradient for axes not in use are zero.
+fn is_rest_zero(parts: [f64; 4], count: usize) -> bool
+    requires { ⌜ count ≤ 4 ⌝ }
+{
+    let mut k = count;
+    while k < 4 {
+        if !float_text::same_bits(parts[k], 0.0) {
+            return false;
+        }
+        k += 1;
+    }
+    true
+}
+
+// The number of both answers of a query; where they differ, or a part is wrong, one that is no answer's.
+fn joined(value: u64, gradient: u64, is_rest_right: bool) -> u64 {
+    if !is_rest_right {
+        return 18446744073709551615;
+    }
     if value == gradient {
         return value;
     }
@@ -79,15 +96,16 @@ fn put_parts(parts: [f64; 4], count: usize, n: usize, i: usize, out: &mut [f64])
 }
 
 // A query by itself.
-fn ask(numbers: &[u64], coeffs: &[f64], x: &[f64]) -> Asked
-    requires { ⌜ length (now numbers) ≡ 22 ⌝ }
+fn ask(numbers: &[u64], grid: &[f64], coeffs: &[f64], x: &[f64]) -> Asked
+    requires { ⌜ (length (now numbers) ≡ 16) × (length (now x) ≤ 4) ⌝ }
 {
-    let one = one_of(map_of(numbers).interp_one(coeffs, x));
-    let gradient = map_of(numbers).interp_one_grad(coeffs, x);
+    let one = one_of(call::value(numbers, grid, coeffs, x));
+    let gradient = call::gradient(numbers, grid, coeffs, x);
     let answer = gradient.answer;
     let parts = gradient.parts;
+    let is_rest_right = is_rest_zero(parts, x.len());
     Asked {
-        number: joined(one.number, answer.number()),
+        number: joined(one.number, answer.number(), is_rest_right),
         value: one.value,
         parts: parts,
     }
@@ -121,6 +139,7 @@ fn put_asked(
 // Query i of n.
 fn ask_at(
     numbers: &[u64],
+    grid: &[f64],
     coeffs: &[f64],
     xs: &[f64],
     x: &mut [f64],
@@ -130,19 +149,20 @@ fn ask_at(
     values: &mut [f64],
     parts: &mut [f64],
 ) -> bool
-    requires { ⌜ (length (now numbers) ≡ 22) × (length (now x) ≤ 4) × (n ≤ 1024) × (i ≤ 1024) ⌝ }
+    requires { ⌜ (length (now numbers) ≡ 16) × (length (now x) ≤ 4) × (n ≤ 1024) × (i ≤ 1024) ⌝ }
     requires { ⌜ (i < length (now answers)) × (i < length (now values)) ⌝ }
 {
     if !gather(xs, n, i, x) {
         return false;
     }
-    let asked = ask(numbers, coeffs, x);
+    let asked = ask(numbers, grid, coeffs, x);
     put_asked(asked, x.len(), n, i, answers, values, parts)
 }
 
 // Every query, as many as `answers` holds; x is a buffer for the coordinates of one.
 pub fn ask_all(
     numbers: &[u64],
+    grid: &[f64],
     coeffs: &[f64],
     xs: &[f64],
     x: &mut [f64],
@@ -150,13 +170,13 @@ pub fn ask_all(
     values: &mut [f64],
     parts: &mut [f64],
 ) -> bool
-    requires { ⌜ (length (now numbers) ≡ 22) × (length (now x) ≤ 4) ⌝ }
+    requires { ⌜ (length (now numbers) ≡ 16) × (length (now x) ≤ 4) ⌝ }
     requires { ⌜ (length (now answers) ≤ 1024) × (length (now values) ≡ length (now answers)) ⌝ }
 {
     let n = answers.len();
     let mut i: usize = 0;
     while i < n {
-        if !ask_at(numbers, coeffs, xs, x, n, i, answers, values, parts) {
+        if !ask_at(numbers, grid, coeffs, xs, x, n, i, answers, values, parts) {
             return false;
         }
         i += 1;

@@ -1,62 +1,46 @@
 // One record of the list: a map, its batches and its queries, and what it expects of them.
 ghost use mathlib.Core.Path.{_≡_};
-ghost use Prim.Native.Nat.{_≤_};
+ghost use Prim.Native.Nat.{_+_, _≤_};
 ghost use lib.ListN.{length};
+ghost use Rattle.replay_queries.specs.Expected.{MatchOnes};
 use crate::batch;
-use crate::map::size;
+use crate::call::size;
+use crate::compare::both;
 use crate::ones;
 use oracle_list::Compared;
-
-// What came of a record. A bool says whether all was as the record expects.
-pub enum Outcome {
-    // the list has no more records
-    End,
-    Unreadable,
-    // and the number of queries
-    Map(u64, bool),
-    Refused(bool),
-}
-
-fn both(a: Compared, b: Compared) -> Compared {
-    match a {
-        Compared::Same => b,
-        Compared::Differs => {
-            match b {
-                Compared::Unreadable => Compared::Unreadable,
-                _ => Compared::Differs,
-            }
-        }
-        Compared::Unreadable => Compared::Unreadable,
-    }
-}
+use oracle_run::Outcome;
 
 // The batch of values.
 fn replay_values(
     text: &[u8],
     numbers: &[u64],
     first: usize,
+    grid: &[f64],
     coeffs: &[f64],
     xs: &[f64],
     out: &mut [f64],
-    wanted: &mut [f64],
+    before: &mut [f64],
+    spare: &mut [f64],
 ) -> Compared
-    requires { ⌜ length (now numbers) ≡ 22 ⌝ }
+    requires { ⌜ length (now numbers) ≡ 16 ⌝ }
 {
-    let n = size(numbers[16]);
+    let n = size(numbers[9]);
     if n > out.len() {
         return Compared::Unreadable;
     }
-    if n > wanted.len() {
+    if n > before.len() {
         return Compared::Unreadable;
     }
     batch::values(
         text,
         numbers,
         first,
+        grid,
         coeffs,
         xs,
         &mut out[..n],
-        &mut wanted[..n],
+        &mut before[..n],
+        spare,
     )
 }
 
@@ -67,30 +51,34 @@ fn replay_gradients(
     count: usize,
     n: usize,
     first: usize,
+    grid: &[f64],
     coeffs: &[f64],
     xs: &[f64],
     out: &mut [f64],
-    wanted: &mut [f64],
+    before: &mut [f64],
+    spare: &mut [f64],
 ) -> Compared
-    requires { ⌜ (length (now numbers) ≡ 22) × (count ≤ 4) × (n ≤ 1024) × (first ≤ 8192) ⌝ }
+    requires { ⌜ (length (now numbers) ≡ 16) × (count ≤ 4) × (n ≤ 1024) × (first ≤ 8192) ⌝ }
 {
-    let m = size(numbers[17]);
+    let m = size(numbers[10]);
     if m > out.len() {
         return Compared::Unreadable;
     }
-    if m > wanted.len() {
+    if m > before.len() {
         return Compared::Unreadable;
     }
     batch::gradients(
         text,
         numbers,
         first,
-        n,
         count,
+        n,
+        grid,
         coeffs,
         xs,
         &mut out[..m],
-        &mut wanted[..m],
+        &mut before[..m],
+        spare,
     )
 }
 
@@ -101,44 +89,60 @@ fn replay_batches(
     count: usize,
     n: usize,
     first: usize,
+    grid: &[f64],
     coeffs: &[f64],
     xs: &[f64],
     out: &mut [f64],
-    wanted: &mut [f64],
+    before: &mut [f64],
+    spare: &mut [f64],
 ) -> Compared
-    requires { ⌜ (length (now numbers) ≡ 22) × (count ≤ 4) × (n ≤ 1024) × (first ≤ 4096) ⌝ }
+    requires { ⌜ (length (now numbers) ≡ 16) × (count ≤ 4) × (n ≤ 1024) × (first ≤ 4096) ⌝ }
 {
     let second = first + n;
     let third = second + n;
-    let a = replay_values(text, numbers, second, coeffs, xs, out, wanted);
-    let b = replay_gradients(text, numbers, count, n, third, coeffs, xs, out, wanted);
+    let a = replay_values(text, numbers, second, grid, coeffs, xs, out, before, spare);
+    let b = replay_gradients(
+        text,
+        numbers,
+        count,
+        n,
+        third,
+        grid,
+        coeffs,
+        xs,
+        out,
+        before,
+        spare,
+    );
     both(a, b)
 }
 
-// The queries by themselves, on buffers of their lengths.
+// The queries by themselves, on buffers of their lengths: answers from word `first` on, then values, then gradients.
 fn replay_ones(
     text: &[u8],
     numbers: &[u64],
     first: usize,
+    grid: &[f64],
     coeffs: &[f64],
     xs: &[f64],
     x: &mut [f64],
     answers: &mut [f64],
     values: &mut [f64],
     parts: &mut [f64],
-    wanted: &mut [f64],
+    spare: &mut [f64],
 ) -> Compared
-    requires { ⌜ (length (now numbers) ≡ 22) × (length (now x) ≤ 4) × (first ≤ 4096) ⌝ }
+    requires { ⌜ (length (now numbers) ≡ 16) × (length (now x) ≤ 4) × (first ≤ 4096) ⌝ }
     requires { ⌜ (length (now answers) ≤ 1024) × (length (now values) ≡ length (now answers)) ⌝ }
+    ensures { λ r. ⌜ (r ≡ Compared.Same → MatchOnes (now (text .entry)) first (length (now (answers .entry))) (now (answers .exit)) (now (values .exit)) (now (parts .exit))) ⌝ }
 {
     let second = first + answers.len();
     let third = second + answers.len();
-    if !ones::ask_all(numbers, coeffs, xs, x, answers, values, parts) {
+    if !ones::ask_all(numbers, grid, coeffs, xs, x, answers, values, parts) {
         return Compared::Unreadable;
     }
-    let a = oracle_list::compare(text, first, answers, wanted);
-    let b = oracle_list::compare(text, second, values, wanted);
-    let c = oracle_list::compare(text, third, parts, wanted);
+    let a = oracle_list::compare(text, first, answers, spare);
+    let b = oracle_list::compare(text, second, values, spare);
+    let c = oracle_list::compare(text, third, parts, spare);
     both(both(a, b), c)
 }
 
@@ -148,14 +152,15 @@ fn replay_queries(
     count: usize,
     n: usize,
     first: usize,
+    grid: &[f64],
     coeffs: &[f64],
     xs: &[f64],
     out: &mut [f64],
     answers: &mut [f64],
     values: &mut [f64],
-    wanted: &mut [f64],
+    spare: &mut [f64],
 ) -> Compared
-    requires { ⌜ (length (now numbers) ≡ 22) × (count ≤ 4) × (n ≤ 1024) × (first ≤ 4096) ⌝ }
+    requires { ⌜ (length (now numbers) ≡ 16) × (count ≤ 4) × (n ≤ 1024) × (first ≤ 4096) ⌝ }
 {
     if n > answers.len() {
         return Compared::Unreadable;
@@ -172,13 +177,14 @@ fn replay_queries(
         text,
         numbers,
         first,
+        grid,
         coeffs,
         xs,
         &mut x[..count],
         &mut answers[..n],
         &mut values[..n],
         &mut out[..m],
-        wanted,
+        spare,
     )
 }
 
@@ -197,18 +203,37 @@ fn is_answered(values: u64, gradients: u64) -> bool {
     is_begun(gradients)
 }
 
+// The counts of the program: maps, queries, refused records.
+fn map(n: usize, is_same: bool) -> Outcome {
+    Outcome::Replayed {
+        first: 1,
+        second: n as u64,
+        third: 0,
+        is_same: is_same,
+    }
+}
+
+fn refused(is_same: bool) -> Outcome {
+    Outcome::Replayed {
+        first: 0,
+        second: 0,
+        third: 1,
+        is_same: is_same,
+    }
+}
+
 fn judge_map(n: usize, compared: Compared) -> Outcome {
     match compared {
-        Compared::Same => Outcome::Map(n as u64, true),
-        Compared::Differs => Outcome::Map(n as u64, false),
+        Compared::Same => map(n, true),
+        Compared::Differs => map(n, false),
         Compared::Unreadable => Outcome::Unreadable,
     }
 }
 
 fn judge_refusal(compared: Compared) -> Outcome {
     match compared {
-        Compared::Same => Outcome::Refused(true),
-        Compared::Differs => Outcome::Refused(false),
+        Compared::Same => refused(true),
+        Compared::Differs => refused(false),
         Compared::Unreadable => Outcome::Unreadable,
     }
 }
@@ -220,28 +245,43 @@ fn replay_both(
     count: usize,
     n: usize,
     first: usize,
+    grid: &[f64],
     coeffs: &[f64],
     xs: &[f64],
     out: &mut [f64],
+    before: &mut [f64],
     answers: &mut [f64],
     values: &mut [f64],
-    wanted: &mut [f64],
+    spare: &mut [f64],
 ) -> Compared
-    requires { ⌜ (length (now numbers) ≡ 22) × (count ≤ 4) × (n ≤ 1024) × (first ≤ 4096) ⌝ }
+    requires { ⌜ (length (now numbers) ≡ 16) × (count ≤ 4) × (n ≤ 1024) × (first ≤ 4096) ⌝ }
 {
-    let a = replay_batches(text, numbers, count, n, first, coeffs, xs, out, wanted);
+    let a = replay_batches(
+        text,
+        numbers,
+        count,
+        n,
+        first,
+        grid,
+        coeffs,
+        xs,
+        out,
+        before,
+        spare,
+    );
     let b = replay_queries(
         text,
         numbers,
         count,
         n,
         first,
+        grid,
         coeffs,
         xs,
         out,
         answers,
         values,
-        wanted,
+        spare,
     );
     both(a, b)
 }
@@ -261,14 +301,16 @@ fn replay_map(
     text: &[u8],
     numbers: &[u64],
     first: usize,
+    grid: &[f64],
     coeffs: &[f64],
     xs: &[f64],
     out: &mut [f64],
+    before: &mut [f64],
     answers: &mut [f64],
     values: &mut [f64],
-    wanted: &mut [f64],
+    spare: &mut [f64],
 ) -> Outcome
-    requires { ⌜ (length (now numbers) ≡ 22) × (length (now xs) ≤ 1024) × (first ≤ 4096) ⌝ }
+    requires { ⌜ (length (now numbers) ≡ 16) × (length (now xs) ≤ 1024) × (first ≤ 4096) ⌝ }
 {
     let count = axis_count(numbers[0]);
     if count == 0 {
@@ -287,12 +329,14 @@ fn replay_map(
         count,
         n,
         first,
+        grid,
         coeffs,
         xs,
         out,
+        before,
         answers,
         values,
-        wanted,
+        spare,
     );
     judge_map(n, a)
 }
@@ -302,99 +346,230 @@ fn replay_refusal(
     text: &[u8],
     numbers: &[u64],
     first: usize,
+    grid: &[f64],
     coeffs: &[f64],
     xs: &[f64],
     out: &mut [f64],
-    wanted: &mut [f64],
+    before: &mut [f64],
+    spare: &mut [f64],
 ) -> Outcome
-    requires { ⌜ (length (now numbers) ≡ 22) × (first ≤ 4096) ⌝ }
+    requires { ⌜ (length (now numbers) ≡ 16) × (first ≤ 4096) ⌝ }
 {
     if text.len() / 17 != first {
         return Outcome::Unreadable;
     }
-    judge_refusal(replay_batches(text, numbers, 0, 0, first, coeffs, xs, out, wanted))
+    judge_refusal(replay_batches(
+        text,
+        numbers,
+        0,
+        0,
+        first,
+        grid,
+        coeffs,
+        xs,
+        out,
+        before,
+        spare,
+    ))
 }
 
-// Reads the coefficients and the coordinates, as many as the buffers hold, and replays.
-fn replay_sized(
+// A record whose floats have been read: from word `first` on it has what is expected.
+fn replay_read(
     text: &[u8],
     numbers: &[u64],
-    coeffs: &mut [f64],
-    xs: &mut [f64],
+    first: usize,
+    grid: &[f64],
+    coeffs: &[f64],
+    xs: &[f64],
     out: &mut [f64],
+    before: &mut [f64],
     answers: &mut [f64],
     values: &mut [f64],
-    wanted: &mut [f64],
+    spare: &mut [f64],
 ) -> Outcome
-    requires { ⌜ (length (now numbers) ≡ 22) × (length (now coeffs) ≤ 1024) × (length (now xs) ≤ 1024) ⌝ }
+    requires { ⌜ (length (now numbers) ≡ 16) × (length (now xs) ≤ 1024) × (first ≤ 4096) ⌝ }
 {
-    let second = 22 + coeffs.len();
-    let first = second + xs.len();
-    if !oracle_list::read_floats(text, 22, coeffs) {
-        return Outcome::Unreadable;
-    }
-    if !oracle_list::read_floats(text, second, xs) {
-        return Outcome::Unreadable;
-    }
-    if is_answered(numbers[18], numbers[20]) {
+    if is_answered(numbers[11], numbers[13]) {
         return replay_map(
             text,
             numbers,
             first,
+            grid,
             coeffs,
             xs,
             out,
+            before,
             answers,
             values,
-            wanted,
+            spare,
         );
     }
-    replay_refusal(text, numbers, first, coeffs, xs, out, wanted)
+    replay_refusal(text, numbers, first, grid, coeffs, xs, out, before, spare)
 }
 
-// Replays a record from its third word on: its 22 numbers, then its floats.
-pub fn replay(
-    kind: u64,
+// The floats of a record: the grid before place `g`, the coordinates from place `c` on, the coefficients between.
+fn replay_parts(
     text: &[u8],
-    coeffs: &mut [f64],
-    xs: &mut [f64],
+    numbers: &[u64],
+    g: usize,
+    c: usize,
+    floats: &[f64],
     out: &mut [f64],
+    before: &mut [f64],
     answers: &mut [f64],
     values: &mut [f64],
-    wanted: &mut [f64],
+    spare: &mut [f64],
 ) -> Outcome
-    requires { ⌜ (length (now coeffs) ≤ 1024) × (length (now xs) ≤ 1024) ⌝ }
+    requires { ⌜ (length (now numbers) ≡ 16) × (g ≤ c) × (c ≤ length (now floats)) × (length (now floats) ≤ c + 1024) × (c ≤ 2048) ⌝ }
 {
-    let mut numbers = [0u64; 22];
-    if !oracle_list::read_numbers(text, &mut numbers) {
+    let first = 15 + floats.len();
+    replay_read(
+        text,
+        numbers,
+        first,
+        &floats[..g],
+        &floats[g..c],
+        &floats[c..],
+        out,
+        before,
+        answers,
+        values,
+        spare,
+    )
+}
+
+// Reads the floats, as many as the buffer holds, and replays.
+fn replay_sized(
+    text: &[u8],
+    numbers: &[u64],
+    g: usize,
+    c: usize,
+    floats: &mut [f64],
+    out: &mut [f64],
+    before: &mut [f64],
+    answers: &mut [f64],
+    values: &mut [f64],
+    spare: &mut [f64],
+) -> Outcome
+    requires { ⌜ (length (now numbers) ≡ 16) × (g ≤ c) × (c ≤ length (now floats)) × (length (now floats) ≤ c + 1024) × (c ≤ 2048) ⌝ }
+{
+    if !oracle_list::read_floats(text, 15, floats) {
         return Outcome::Unreadable;
     }
-    if !is_kind(kind, numbers[13]) {
+    replay_parts(
+        text,
+        numbers,
+        g,
+        c,
+        floats,
+        out,
+        before,
+        answers,
+        values,
+        spare,
+    )
+}
+
+// Replays a record whose numbers have been read.
+fn replay_numbers(
+    text: &[u8],
+    numbers: &[u64],
+    floats: &mut [f64],
+    out: &mut [f64],
+    before: &mut [f64],
+    answers: &mut [f64],
+    values: &mut [f64],
+    spare: &mut [f64],
+) -> Outcome
+    requires { ⌜ length (now numbers) ≡ 16 ⌝ }
+{
+    let g = size(numbers[6]);
+    let m = size(numbers[7]);
+    let x = size(numbers[8]);
+    if g > 1024 {
         return Outcome::Unreadable;
     }
-    let c = size(numbers[14]);
-    let x = size(numbers[15]);
-    if c > coeffs.len() {
+    if m > 1024 {
         return Outcome::Unreadable;
     }
-    if x > xs.len() {
+    if x > 1024 {
+        return Outcome::Unreadable;
+    }
+    let c = g + m;
+    let end = c + x;
+    if end > floats.len() {
         return Outcome::Unreadable;
     }
     replay_sized(
         text,
-        &numbers,
-        &mut coeffs[..c],
-        &mut xs[..x],
+        numbers,
+        g,
+        c,
+        &mut floats[..end],
         out,
+        before,
         answers,
         values,
-        wanted,
+        spare,
     )
 }
 
-// Whether a record may be of this kind, and have this flag.
-fn is_kind(kind: u64, flag: u64) -> bool {
+// The numbers of a record, and its kind after them.
+fn with_kind(n: [u64; 15], kind: u64) -> [u64; 16] {
+    [
+        n[0],
+        n[1],
+        n[2],
+        n[3],
+        n[4],
+        n[5],
+        n[6],
+        n[7],
+        n[8],
+        n[9],
+        n[10],
+        n[11],
+        n[12],
+        n[13],
+        n[14],
+        kind,
+    ]
+}
+
+// Replays a record from its third word on: its 15 numbers, then its floats. Its kind stands after its numbers.
+pub fn replay(
+    kind: u64,
+    text: &[u8],
+    floats: &mut [f64],
+    out: &mut [f64],
+    before: &mut [f64],
+    answers: &mut [f64],
+    values: &mut [f64],
+    spare: &mut [f64],
+) -> Outcome {
+    let mut read = [0u64; 15];
+    if !oracle_list::read_numbers(text, &mut read) {
+        return Outcome::Unreadable;
+    }
+    let numbers = with_kind(read, kind);
+    if !is_kind(kind, numbers[5], numbers[6]) {
+        return Outcome::Unreadable;
+    }
+    replay_numbers(text, &numbers, floats, out, before, answers, values, spare)
+}
+
+// Whether a record of this kind may have this flag and this many floats of a grid.
+fn is_kind(kind: u64, flag: u64, floats: u64) -> bool {
     if flag > 1 {
+        return false;
+    }
+    if kind == 8 {
+        return true;
+    }
+    if kind == 9 {
+        return true;
+    }
+    if floats != 8 {
         return false;
     }
     if kind == 4 {

@@ -8,10 +8,9 @@ use Rattle.replay.proofs.replay_all.Tie as tie
 
 -- the buffers keep their lengths
 abbrev Inv-loop : tie.InvT-loop
-Inv-loop fd head₀ text₀ numbers₀ samples₀ coeffs₀ scratch₀ expected₀ tally₀ left₀ head text numbers samples coeffs scratch expected tally left =
-    (length head ≡ length head₀)
-    × (length text ≡ length text₀)
-    × (length numbers ≡ length numbers₀)
+Inv-loop fd text₀ grid₀ samples₀ coeffs₀ scratch₀ expected₀ tally₀ left₀ text grid samples coeffs scratch expected tally left =
+    (length text ≡ length text₀)
+    × (length grid ≡ length grid₀)
     × (length samples ≡ length samples₀)
     × (length coeffs ≡ length coeffs₀)
     × (length scratch ≡ length scratch₀)
@@ -19,7 +18,7 @@ Inv-loop fd head₀ text₀ numbers₀ samples₀ coeffs₀ scratch₀ expected�
     × (left ≤ 1000000)
 
 abbrev μ-loop : tie.MeasureT-loop
-μ-loop fd head₀ text₀ numbers₀ samples₀ coeffs₀ scratch₀ expected₀ tally₀ left₀ head text numbers samples coeffs scratch expected tally left =
+μ-loop fd text₀ grid₀ samples₀ coeffs₀ scratch₀ expected₀ tally₀ left₀ text grid samples coeffs scratch expected tally left =
     left
 
 pub replay-all-spec : {M : Type 1} → statement M
@@ -33,8 +32,6 @@ replay-all-spec =
     (λ c. search needs)
     (λ c κs. search needs)
     (λ c κs. search needs)
-    (λ c. search needs)
-    (λ c. search needs)
     (λ c. search needs)
     (λ c. search needs)
     (λ c. search needs)

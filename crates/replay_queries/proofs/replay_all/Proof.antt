@@ -8,18 +8,18 @@ use Rattle.replay_queries.proofs.replay_all.Tie as tie
 
 -- the buffers keep their lengths
 abbrev Inv-loop : tie.InvT-loop
-Inv-loop fd text₀ coeffs₀ xs₀ out₀ answers₀ values₀ wanted₀ tally₀ left₀ text coeffs xs out answers values wanted tally left =
+Inv-loop fd text₀ floats₀ out₀ before₀ answers₀ values₀ spare₀ tally₀ left₀ text floats out before answers values spare tally left =
     (length text ≡ length text₀)
-    × (length coeffs ≡ length coeffs₀)
-    × (length xs ≡ length xs₀)
+    × (length floats ≡ length floats₀)
     × (length out ≡ length out₀)
+    × (length before ≡ length before₀)
     × (length answers ≡ length answers₀)
     × (length values ≡ length values₀)
-    × (length wanted ≡ length wanted₀)
+    × (length spare ≡ length spare₀)
     × (left ≤ 1000000)
 
 abbrev μ-loop : tie.MeasureT-loop
-μ-loop fd text₀ coeffs₀ xs₀ out₀ answers₀ values₀ wanted₀ tally₀ left₀ text coeffs xs out answers values wanted tally left =
+μ-loop fd text₀ floats₀ out₀ before₀ answers₀ values₀ spare₀ tally₀ left₀ text floats out before answers values spare tally left =
     left
 
 pub replay-all-spec : {M : Type 1} → statement M

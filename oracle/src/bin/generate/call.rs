@@ -1,11 +1,15 @@
 // One call of `coefficients`, and what the Rust answers to it.
-use interpn::multibspline::regular::coefficients;
+use crate::shared::grids::{axes, can_ask};
+use crate::shared::words::number;
+use interpn::multibspline::{rectilinear, regular};
 
 #[derive(Clone)]
 pub struct Call {
     pub count: u64,
     // lengths past the axis count are not looked at
     pub dims: [u64; 4],
+    // the joined knots of a rectilinear grid
+    pub grid: Option<Vec<f64>>,
     pub samples: Vec<f64>,
     // lengths of the two buffers
     pub coefs: usize,
@@ -29,7 +33,17 @@ pub fn scratch_before(n: usize) -> Vec<f64> {
 }
 
 impl Call {
-    // The Rust's answer; the axis count is 1 to 4. A refusal must leave the buffers as they were.
+    // The lengths in use, where the axis count is 1 to 4.
+    pub fn lengths(&self) -> &[u64] {
+        &self.dims[..self.count as usize]
+    }
+
+    // Whether the Rust can be asked.
+    pub fn can_ask(&self) -> bool {
+        can_ask(self.count, &self.dims, self.grid.as_deref())
+    }
+
+    // The Rust's answer. A refusal must leave the buffers as they were.
     pub fn answer(&self) -> Answer {
         let mut coefs = coefs_before(self.coefs);
         let mut scratch = scratch_before(self.scratch);
@@ -40,7 +54,7 @@ impl Call {
             4 => self.run::<4>(&mut coefs, &mut scratch),
             _ => panic!("the Rust is not run with {} axes", self.count),
         };
-        let number = number(result);
+        let number = number(&result);
         if number != 0 {
             assert_eq!(coefs, coefs_before(self.coefs), "a refusal changed the coefficients");
             assert_eq!(scratch, scratch_before(self.scratch), "a refusal changed scratch");
@@ -49,17 +63,15 @@ impl Call {
     }
 
     fn run<const N: usize>(&self, coefs: &mut [f64], scratch: &mut [f64]) -> Result<(), &'static str> {
-        let dims: [usize; N] = std::array::from_fn(|axis| self.dims[axis] as usize);
-        coefficients(dims, &self.samples, coefs, scratch)
-    }
-}
-
-// The number of the Rust's answer.
-fn number(result: Result<(), &'static str>) -> u64 {
-    match result {
-        Ok(()) => 0,
-        Err("Dimension mismatch") => 2,
-        Err("Scratch buffer is too small") => 4,
-        Err(text) => panic!("no number for: {text}"),
+        match &self.grid {
+            None => {
+                let dims: [usize; N] = std::array::from_fn(|axis| self.dims[axis] as usize);
+                regular::coefficients(dims, &self.samples, coefs, scratch)
+            }
+            Some(grid) => {
+                let grids: [&[f64]; N] = axes(&self.dims, grid);
+                rectilinear::coefficients(&grids, &self.samples, coefs, scratch)
+            }
+        }
     }
 }

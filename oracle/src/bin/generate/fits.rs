@@ -1,8 +1,9 @@
-// The accepted fits: shapes of one to four axes, each with every kind of samples.
+// The accepted fits on regular grids: shapes of one to four axes, each with every kind of samples.
 use crate::call::Call;
 use crate::list::List;
-use crate::random::Random;
-use crate::samples::{KINDS, samples};
+use crate::shared::random::Random;
+use crate::shared::samples::{KINDS, samples};
+use crate::shared::words::junk;
 
 const SEED: u64 = 0x26_574e_b562;
 
@@ -29,7 +30,7 @@ fn axis_counts(kind: &str) -> &'static [usize] {
 }
 
 // Random lengths. On three and four axes one of them is from 4 to 9 and the others are small, which keeps the list short.
-fn drawn(random: &mut Random, count: usize) -> Vec<u64> {
+pub fn drawn(random: &mut Random, count: usize) -> Vec<u64> {
     let long = random.below(count as u64) as usize;
     (0..count).map(|axis| length(random, count, axis == long)).collect()
 }
@@ -80,25 +81,28 @@ fn chosen(list: &mut List, random: &mut Random) {
 }
 
 fn fit(list: &mut List, random: &mut Random, kind: &str, dims: &[u64]) {
+    let call = call(random, kind, dims, None);
+    list.fit(&format!("fit, {} axes, {kind}", dims.len()), &call);
+}
+
+// A call that is accepted, with enough scratch or some more.
+pub fn call(random: &mut Random, kind: &str, dims: &[u64], grid: Option<Vec<f64>>) -> Call {
     let n: u64 = dims.iter().product();
     let longest = *dims.iter().max().unwrap();
     let more = random.pick(&[0, 0, 1, 2, 7]);
-    let call = Call {
+    Call {
         count: dims.len() as u64,
         dims: padded(random, dims),
+        grid,
         samples: samples(random, kind, n as usize),
         coefs: n as usize,
         scratch: (2 * longest + more) as usize,
-    };
-    list.fit(&format!("fit, {} axes, {kind}", dims.len()), &call);
+    }
 }
 
 // Four lengths. Those of no axis are zero, or anything at all: they are not to be looked at.
 pub fn padded(random: &mut Random, dims: &[u64]) -> [u64; 4] {
-    let mut out = [0; 4];
-    if random.below(3) == 0 {
-        out = std::array::from_fn(|_| random.pick(&[0, 1, 3, 4, 9, 1 << 24, 1 << 63, u64::MAX]));
-    }
+    let mut out = if random.below(3) == 0 { junk(random) } else { [0; 4] };
     out[..dims.len()].copy_from_slice(dims);
     out
 }

@@ -1,18 +1,14 @@
 // The list: its words and its counts.
 use crate::call::{Answer, Call, coefs_before, scratch_before};
+use crate::shared::words::{given, put_record, written};
 use std::collections::BTreeMap;
 
-const FROM_RUST: u64 = 1;
-const FROM_PAPERS: u64 = 2;
 const PUBLISHED: u64 = 3;
 
-// The most words that may follow a record's first two: the replaying program reads no more.
-const MOST_WORDS: usize = 3584;
+// The most cells of the replaying program's buffers.
 const MOST_SAMPLES: usize = 2048;
+const MOST_KNOTS: usize = 512;
 const MOST_SCRATCH: usize = 512;
-
-// The one NaN that is written for every NaN that the Rust answers: which one it is depends on the machine.
-const NAN: u64 = 0x7ff8_0000_0000_0000;
 
 pub struct List {
     text: Vec<u8>,
@@ -20,6 +16,14 @@ pub struct List {
     refused: usize,
     published: usize,
     classes: BTreeMap<String, usize>,
+}
+
+fn from_rust(call: &Call) -> u64 {
+    if call.grid.is_none() { 1 } else { 6 }
+}
+
+fn from_papers(call: &Call) -> u64 {
+    if call.grid.is_none() { 2 } else { 7 }
 }
 
 impl List {
@@ -36,7 +40,7 @@ impl List {
         let answer = call.answer();
         assert_eq!(answer.number, 0, "{class}");
         self.fits += 1;
-        self.record(class, FROM_RUST, call, 0.0, &answer);
+        self.record(class, from_rust(call), call, 0.0, &answer);
     }
 
     // A call that the Rust refuses, with the number that is meant.
@@ -44,17 +48,17 @@ impl List {
         let answer = call.answer();
         assert_eq!(answer.number, number, "{class}");
         self.refused += 1;
-        self.record(class, FROM_RUST, call, 0.0, &answer);
+        self.record(class, from_rust(call), call, 0.0, &answer);
     }
 
-    // A refusal that only the papers define. Where the Rust can be run it must refuse the call too, with 2: its buffers
+    // A refusal that only the papers define. Where the Rust can be asked it must refuse the call too, with 2: its buffers
     // are never long enough.
     pub fn papers_refusal(&mut self, class: &str, number: u64, call: &Call) {
-        if (1..=4).contains(&call.count) {
+        if call.can_ask() {
             assert_eq!(call.answer().number, 2, "{class}");
         }
         self.refused += 1;
-        self.record(class, FROM_PAPERS, call, 0.0, &refused(number, call));
+        self.record(class, from_papers(call), call, 0.0, &refused(number, call));
     }
 
     // A published figure: the coefficients are given, and the Rust must meet them too. Scratch is not compared, and the
@@ -76,22 +80,22 @@ impl List {
     }
 
     fn record(&mut self, class: &str, kind: u64, call: &Call, tolerance: f64, answer: &Answer) {
+        let grid = call.grid.as_deref().unwrap_or(&[]);
         let mut words = vec![call.count];
         words.extend(call.dims);
-        words.extend([call.samples.len() as u64, call.coefs as u64, call.scratch as u64]);
+        words.extend([grid.len(), call.samples.len(), call.coefs, call.scratch].map(|n| n as u64));
         words.extend([answer.number, tolerance.to_bits()]);
-        words.extend(call.samples.iter().map(|x| x.to_bits()));
+        words.extend(given(grid));
+        words.extend(given(&call.samples));
         if answer.number == 0 {
             words.extend(answer.coefs.iter().map(|&x| written(x)));
             words.extend(answer.scratch.iter().map(|&x| written(x)));
         }
-        assert!(words.len() <= MOST_WORDS && call.samples.len() <= MOST_SAMPLES, "{class}: too long a record");
+        assert!(grid.len() <= MOST_KNOTS && call.samples.len() <= MOST_SAMPLES, "{class}: too many floats");
         assert!(call.coefs <= MOST_SAMPLES && call.scratch <= MOST_SCRATCH, "{class}: too long a buffer");
-        words.splice(0..0, [kind, words.len() as u64]);
-        let line: Vec<String> = words.iter().map(|w| format!("{w:016x}")).collect();
-        self.text.extend(line.join(" ").bytes());
-        self.text.push(b'\n');
-        *self.classes.entry(class.to_string()).or_default() += 1;
+        put_record(&mut self.text, class, kind, &words);
+        let grid = if call.grid.is_none() { "regular" } else { "rectilinear" };
+        *self.classes.entry(format!("{grid}, {class}")).or_default() += 1;
     }
 
     pub fn tell_counts(&self) {
@@ -107,8 +111,4 @@ impl List {
 
 fn refused(number: u64, call: &Call) -> Answer {
     Answer { number, coefs: coefs_before(call.coefs), scratch: scratch_before(call.scratch) }
-}
-
-fn written(x: f64) -> u64 {
-    if x.is_nan() { NAN } else { x.to_bits() }
 }

@@ -1,12 +1,16 @@
-// Writes the fixed list of calls and answers to standard output, and its counts to standard error. Nothing here depends on
-// the time, the environment or the machine. ../../../README.md describes the list.
+// Writes the fixed list of fits and their answers to standard output, and its counts to standard error. Nothing here depends
+// on the time, the environment or the machine. ../../../README.md describes the list.
 mod call;
 mod fits;
 mod list;
 mod published;
-mod random;
+mod rectilinear_fits;
+mod rectilinear_refusals;
 mod refusals;
-mod samples;
+mod shapes;
+#[allow(dead_code)]
+#[path = "../../shared/mod.rs"]
+mod shared;
 
 use list::List;
 use std::io::Write;
@@ -16,6 +20,8 @@ fn main() {
     fits::add(&mut list);
     refusals::add(&mut list);
     published::add(&mut list);
+    rectilinear_fits::add(&mut list);
+    rectilinear_refusals::add(&mut list);
     std::io::stdout().write_all(list.text()).expect("standard output is closed");
     list.tell_counts();
 }

@@ -84,6 +84,6 @@ fn figure(list: &mut List, class: &str, dims: &[usize], samples: Vec<f64>, coefs
         four[axis] = n as u64;
     }
     let scratch = 2 * dims.iter().max().unwrap();
-    let call = Call { count: dims.len() as u64, dims: four, samples, coefs: coefs.len(), scratch };
+    let call = Call { count: dims.len() as u64, dims: four, grid: None, samples, coefs: coefs.len(), scratch };
     list.figure(class, &call, size / (1u64 << 48) as f64, coefs);
 }

@@ -1,9 +1,11 @@
-// The refused calls: each refusal by itself, and several at once, where the first in the fixed order is the answer.
+// The refused calls on regular grids: each refusal by itself, and several at once, where the first in the fixed order is the
+// answer.
 use crate::call::Call;
 use crate::fits::padded;
 use crate::list::List;
-use crate::random::Random;
-use crate::samples::samples;
+use crate::shapes::{LARGE, MOST, large, wrapped};
+use crate::shared::random::Random;
+use crate::shared::samples::samples;
 
 const SEED: u64 = 0x26_574e_b562 + 1;
 const EACH: usize = 140;
@@ -29,6 +31,7 @@ fn good(random: &mut Random) -> Call {
     Call {
         count: count as u64,
         dims: padded(random, &dims),
+        grid: None,
         samples: samples(random, kind, n as usize),
         coefs: n as usize,
         scratch: 2 * *dims.iter().max().unwrap() as usize,
@@ -49,7 +52,7 @@ fn spoilt(random: &mut Random, mut call: Call) -> Call {
     call
 }
 
-fn shorten_samples(random: &mut Random, call: &mut Call) {
+pub fn shorten_samples(random: &mut Random, call: &mut Call) {
     let n = call.samples.len();
     call.samples.truncate(random.pick(&[0, 1, n - 1]));
 }
@@ -97,64 +100,22 @@ fn short_axes(list: &mut List, random: &mut Random) {
 // Four axes with few samples: more than the map has are not wanted where a short axis is refused first.
 fn four_axes(random: &mut Random) -> Call {
     let dims: [u64; 4] = std::array::from_fn(|_| random.between(4, 6));
-    Call { count: 4, dims, samples: samples(random, "ordinary", 6), coefs: 6, scratch: 12 }
+    Call { count: 4, dims, grid: None, samples: samples(random, "ordinary", 6), coefs: 6, scratch: 12 }
 }
 
 // 3: more than 16,777,216 points, also where their number is past 64 bits. There the Rust says 2, as the buffers do not
 // have that length.
 fn too_many_points(list: &mut List, random: &mut Random) {
-    for dims in large_shapes() {
+    for dims in LARGE {
         let call = with_dims(random, dims);
         list.papers_refusal("3, points", 3, &call);
     }
-    for i in 0..EACH - large_shapes().len() {
+    for i in 0..EACH - LARGE.len() {
         let dims = if i % 3 == 2 { wrapped(random) } else { large(random) };
         let call = with_dims(random, &dims);
         let call = if i % 2 == 0 { call } else { spoilt(random, call) };
         list.papers_refusal("3, points", 3, &call);
     }
-}
-
-fn large_shapes() -> &'static [&'static [u64]] {
-    &[
-        // 16,777,217 points, and a few more
-        &[16_777_217],
-        &[97, 172_961],
-        &[172_961, 97],
-        &[257, 65_281],
-        &[673, 24_929],
-        &[97, 257, 673],
-        &[673, 257, 97],
-        &[4, 4_194_305],
-        &[4096, 4097],
-        &[4097, 4096],
-        &[256, 256, 257],
-        &[257, 256, 256],
-        &[256, 257, 256],
-        &[64, 64, 64, 65],
-        &[65, 64, 64, 64],
-        &[4, 4, 4, 262_145],
-        &[4, 4, 1_048_577, 4],
-        // about 32 and 64 bits
-        &[1 << 32],
-        &[(1 << 32) + 4],
-        &[1 << 63],
-        &[u64::MAX],
-        &[1 << 16, 1 << 16],
-        &[1 << 31, 1 << 32],
-        &[u64::MAX, 4],
-        &[4, u64::MAX],
-        &[u64::MAX, u64::MAX],
-        &[u64::MAX, u64::MAX, u64::MAX, u64::MAX],
-        // the product past 64 bits would wrap to 0
-        &[1 << 32, 1 << 32],
-        &[1 << 62, 4],
-        &[4, 1 << 62],
-        &[1 << 22, 1 << 22, 1 << 20],
-        &[1 << 16, 1 << 16, 1 << 16, 1 << 16],
-        &[16_777_216, 16_777_216, 16_777_216],
-        &[4, 4, 4, 1 << 58],
-    ]
 }
 
 fn with_dims(random: &mut Random, dims: &[u64]) -> Call {
@@ -164,51 +125,9 @@ fn with_dims(random: &mut Random, dims: &[u64]) -> Call {
     call
 }
 
-// Random lengths with more than 16,777,216 points.
-fn large(random: &mut Random) -> Vec<u64> {
-    let count = random.between(1, 4);
-    loop {
-        let dims: Vec<u64> = (0..count).map(|_| 4 + (random.bits() >> random.between(0, 61))).collect();
-        let points = dims.iter().try_fold(1u64, |n, &d| n.checked_mul(d));
-        if points.is_none_or(|n| n > 16_777_216) {
-            return dims;
-        }
-    }
-}
-
-// Two or three lengths whose product, were it to wrap at 64 bits, would be 16: an odd length and sixteen times its inverse.
-fn wrapped(random: &mut Random) -> Vec<u64> {
-    let odd = 5 + 2 * random.below(1000);
-    let mut inverse = odd;
-    for _ in 0..6 {
-        inverse = inverse.wrapping_mul(2u64.wrapping_sub(odd.wrapping_mul(inverse)));
-    }
-    match random.below(3) {
-        0 => vec![odd, inverse.wrapping_mul(16)],
-        1 => vec![inverse.wrapping_mul(16), odd],
-        _ => vec![4, odd, inverse.wrapping_mul(4)],
-    }
-}
-
 // 2: shapes of just 16,777,216 points, and a few less, are not too large; their buffers are.
 fn most_points(list: &mut List, random: &mut Random) {
-    let shapes: [&[u64]; 14] = [
-        &[16_777_216],
-        &[16_777_215],
-        &[4096, 4096],
-        &[4, 4_194_304],
-        &[4_194_304, 4],
-        &[4095, 4097],
-        &[256, 256, 256],
-        &[4, 1024, 4096],
-        &[255, 257, 256],
-        &[64, 64, 64, 64],
-        &[4, 4, 4, 262_144],
-        &[262_144, 4, 4, 4],
-        &[16, 64, 128, 128],
-        &[63, 65, 64, 64],
-    ];
-    for dims in shapes {
+    for dims in MOST {
         for spoil in [false, true] {
             let call = with_dims(random, dims);
             let call = if spoil { spoilt(random, call) } else { call };

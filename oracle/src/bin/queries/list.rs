@@ -1,16 +1,12 @@
 // The list: its words and its counts.
 use crate::map::{Answer, Batch, Map};
+use crate::shared::words::{given, put_record, written};
 use std::collections::BTreeMap;
 
-const FROM_RUST: u64 = 4;
-const FROM_PAPERS: u64 = 5;
-
-// The most that the replaying program takes: words after a record's first two, and cells of each buffer.
-const MOST_WORDS: usize = 3584;
+// The most cells of each buffer of the replaying program.
 const MOST_CELLS: usize = 1024;
 
-// The one NaN that is written for every NaN that the Rust answers: which one it is depends on the machine.
-const NAN: u64 = 0x7ff8_0000_0000_0000;
+const PLACES: [&str; 5] = ["OutsideLow", "InsideLow", "None", "InsideHigh", "OutsideHigh"];
 
 pub struct List {
     text: Vec<u8>,
@@ -18,7 +14,20 @@ pub struct List {
     queries: usize,
     refused: usize,
     classes: BTreeMap<String, (usize, usize)>,
-    places: BTreeMap<String, usize>,
+    // by grid, axis count and axis, flag and place
+    places: BTreeMap<(&'static str, u64, usize, bool, &'static str), usize>,
+}
+
+fn from_rust(map: &Map) -> u64 {
+    if map.grid.is_none() { 4 } else { 8 }
+}
+
+fn from_papers(map: &Map) -> u64 {
+    if map.grid.is_none() { 5 } else { 9 }
+}
+
+fn grid_name(map: &Map) -> &'static str {
+    if map.grid.is_none() { "regular" } else { "rectilinear" }
 }
 
 impl List {
@@ -35,14 +44,14 @@ impl List {
         let answer = map.answer();
         assert!(matches!(answer.values.number, 0 | 6) || matches!(answer.parts.number, 0 | 6), "{class}");
         assert!((0..map.queries()).all(|i| !map.overflows(i)), "{class}: the Rust overflows");
-        self.answered(class, FROM_RUST, map, &answer);
+        self.answered(class, from_rust(map), map, &answer);
     }
 
     // The same, with queries at which the Rust overflows and the papers say 6.
     pub fn papers_map(&mut self, class: &str, map: &Map) {
         let answer = map.answer();
         assert!((0..map.queries()).any(|i| map.overflows(i)), "{class}: the Rust answers");
-        self.answered(class, FROM_PAPERS, map, &answer);
+        self.answered(class, from_papers(map), map, &answer);
     }
 
     fn answered(&mut self, class: &str, kind: u64, map: &Map, answer: &Answer) {
@@ -52,8 +61,7 @@ impl List {
         for (i, one) in answer.ones.iter().enumerate() {
             for axis in 0..map.count as usize {
                 let place = if one.number == 0 { place(map, axis, map.x(axis, i)) } else { "of refused queries" };
-                let flag = if map.linear { "linear" } else { "cubic" };
-                *self.places.entry(format!("{} axes, {flag}, {place}", map.count)).or_default() += 1;
+                *self.places.entry((grid_name(map), map.count, axis, map.linear, place)).or_default() += 1;
             }
         }
     }
@@ -64,30 +72,32 @@ impl List {
         let batch = Batch { number, written: 0 };
         assert_eq!((answer.values, answer.parts), (batch, batch), "{class}");
         self.refused += 1;
-        self.record(class, FROM_RUST, map, &answer);
+        self.record(class, from_rust(map), map, &answer);
     }
 
-    // A refusal that only the papers define. Where the Rust can be run it must refuse the map too, with 2: its coefficients
+    // A refusal that only the papers define. Where the Rust can be asked it must refuse the map too, with 2: its coefficients
     // are never enough.
     pub fn papers_refusal(&mut self, class: &str, number: u64, map: &Map) {
-        if (1..=4).contains(&map.count) {
+        if map.can_ask() {
             assert_eq!(map.answer().values.number, 2, "{class}");
         }
         self.refused += 1;
         let batch = Batch { number, written: 0 };
-        self.record(class, FROM_PAPERS, map, &Answer { values: batch, parts: batch, ones: Vec::new() });
+        self.record(class, from_papers(map), map, &Answer { values: batch, parts: batch, ones: Vec::new() });
     }
 
     fn record(&mut self, class: &str, kind: u64, map: &Map, answer: &Answer) {
+        let regular = [map.starts, map.steps].concat();
+        let grid = map.grid.as_ref().unwrap_or(&regular);
+        let lengths = [grid.len(), map.coefs.len(), map.xs.len(), map.values, map.parts];
         let mut words = vec![map.count];
         words.extend(map.dims);
-        words.extend(map.starts.iter().chain(&map.steps).map(|x| x.to_bits()));
         words.push(u64::from(map.linear));
-        words.extend([map.coefs.len(), map.xs.len(), map.values, map.parts].map(|n| n as u64));
+        words.extend(lengths.map(|n| n as u64));
         for batch in [answer.values, answer.parts] {
             words.extend([batch.number, batch.written as u64]);
         }
-        words.extend(map.coefs.iter().chain(&map.xs).map(|x| x.to_bits()));
+        words.extend([grid, &map.coefs, &map.xs].into_iter().flat_map(|xs| given(xs)));
         words.extend(answer.ones.iter().map(|one| one.number));
         words.extend(answer.ones.iter().map(|one| written(one.value)));
         if !answer.ones.is_empty() {
@@ -95,13 +105,9 @@ impl List {
                 words.extend(answer.ones.iter().map(|one| written(one.parts[axis])));
             }
         }
-        let most = [map.coefs.len(), map.xs.len(), map.values, map.parts].into_iter().max().unwrap();
-        assert!(words.len() <= MOST_WORDS && most <= MOST_CELLS, "{class}: too long a record");
-        words.splice(0..0, [kind, words.len() as u64]);
-        let line: Vec<String> = words.iter().map(|w| format!("{w:016x}")).collect();
-        self.text.extend(line.join(" ").bytes());
-        self.text.push(b'\n');
-        let counts = self.classes.entry(class.to_string()).or_default();
+        assert!(lengths.into_iter().all(|n| n <= MOST_CELLS), "{class}: too long a buffer");
+        put_record(&mut self.text, class, kind, &words);
+        let counts = self.classes.entry(format!("{}, {class}", grid_name(map))).or_default();
         *counts = (counts.0 + 1, counts.1 + answer.ones.len());
     }
 
@@ -109,19 +115,36 @@ impl List {
         for (class, (records, queries)) in &self.classes {
             eprintln!("{records:5} records {queries:5} queries  {class}");
         }
-        for (place, n) in &self.places {
-            eprintln!("{n:5} coordinates  {place}");
+        for grid in ["regular", "rectilinear"] {
+            for count in 1..=4 {
+                self.tell_places(grid, count);
+            }
         }
         eprintln!("bytes,{}", self.text.len());
         eprintln!("maps,{}", self.maps);
         eprintln!("queries,{}", self.queries);
         eprintln!("refused,{}", self.refused);
     }
+
+    // How many coordinates the rarest place has on one of the axes, with one of the flags, and in all.
+    fn tell_places(&self, grid: &'static str, count: u64) {
+        let find = |axis, linear, place| *self.places.get(&(grid, count, axis, linear, place)).unwrap_or(&0);
+        let axes = 0..count as usize;
+        let one = axes.clone().flat_map(|axis| [(axis, false), (axis, true)]);
+        let all = [false, true].into_iter().flat_map(|linear| PLACES.map(|place| (linear, place)));
+        let rarest = one.flat_map(|(axis, linear)| PLACES.map(|place| find(axis, linear, place))).min();
+        let least = all.map(|(linear, place)| axes.clone().map(|axis| find(axis, linear, place)).sum::<usize>()).min();
+        let (rarest, least) = (rarest.unwrap(), least.unwrap());
+        eprintln!("{least:5} coordinates of each place and flag, {rarest} on each axis: {grid}, {count} axes");
+    }
 }
 
 // The place of a coordinate, from the papers' rule: only for the counts.
 fn place(map: &Map, axis: usize, x: f64) -> &'static str {
-    let cell = map.floor(axis, x) - 1.0;
+    let cell = match map.knots(axis) {
+        None => map.floor(axis, x) - 1.0,
+        Some(knots) => knots.iter().filter(|&&knot| knot < x).count() as f64 - 2.0,
+    };
     let last = map.dims[axis] as f64 - 3.0;
     if cell < -1.0 {
         "OutsideLow"
@@ -134,8 +157,4 @@ fn place(map: &Map, axis: usize, x: f64) -> &'static str {
     } else {
         "None"
     }
-}
-
-fn written(x: f64) -> u64 {
-    if x.is_nan() { NAN } else { x.to_bits() }
 }

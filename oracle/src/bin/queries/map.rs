@@ -1,4 +1,7 @@
 // One map with a batch of queries, and what the Rust answers to it.
+use crate::shared::grids::{axes, can_ask, places};
+use crate::shared::words::number;
+use interpn::multibspline::rectilinear::MultiBsplineRectilinear;
 use interpn::multibspline::regular::MultiBsplineRegular;
 
 #[derive(Clone)]
@@ -6,8 +9,11 @@ pub struct Map {
     pub count: u64,
     // lengths, starts and steps past the axis count are not looked at
     pub dims: [u64; 4],
+    // of a regular grid; zeros on a rectilinear one
     pub starts: [f64; 4],
     pub steps: [f64; 4],
+    // the joined knots of a rectilinear grid
+    pub grid: Option<Vec<f64>>,
     pub linear: bool,
     pub coefs: Vec<f64>,
     // coordinates, axis after axis
@@ -51,10 +57,45 @@ fn ends(n: usize, count: usize) -> Vec<usize> {
     (0..count).map(|k| n / count + usize::from(k < n % count)).collect()
 }
 
+// What the Rust's two kinds of maps can be asked.
+trait Asked<const N: usize> {
+    fn value(&self, x: [f64; N]) -> Result<f64, &'static str>;
+    fn gradient(&self, x: [f64; N]) -> Result<[f64; N], &'static str>;
+    fn values(&self, x: &[&[f64]; N], out: &mut [f64]) -> Result<(), &'static str>;
+    fn gradients(&self, x: &[&[f64]; N], out: &mut [&mut [f64]; N]) -> Result<(), &'static str>;
+}
+
+macro_rules! asked {
+    ($map:ident) => {
+        impl<const N: usize> Asked<N> for $map<'_, f64, N> {
+            fn value(&self, x: [f64; N]) -> Result<f64, &'static str> {
+                self.interp_one(x)
+            }
+            fn gradient(&self, x: [f64; N]) -> Result<[f64; N], &'static str> {
+                self.interp_one_grad(x)
+            }
+            fn values(&self, x: &[&[f64]; N], out: &mut [f64]) -> Result<(), &'static str> {
+                self.interp(x, out)
+            }
+            fn gradients(&self, x: &[&[f64]; N], out: &mut [&mut [f64]; N]) -> Result<(), &'static str> {
+                self.interp_grad(x, out)
+            }
+        }
+    };
+}
+
+asked!(MultiBsplineRegular);
+asked!(MultiBsplineRectilinear);
+
 impl Map {
-    // The floor of a coordinate's quotient.
+    // The floor of a coordinate's quotient on a regular grid.
     pub fn floor(&self, axis: usize, x: f64) -> f64 {
         ((x - self.starts[axis]) / self.steps[axis]).floor()
+    }
+
+    // The knots of an axis of a rectilinear grid, which has as many as the lengths say.
+    pub fn knots(&self, axis: usize) -> Option<&[f64]> {
+        self.grid.as_ref().map(|grid| &grid[places(&self.dims, axis)])
     }
 
     pub fn queries(&self) -> usize {
@@ -68,10 +109,15 @@ impl Map {
 
     // Whether the Rust's subtraction overflows at query i: there it is not asked.
     pub fn overflows(&self, i: usize) -> bool {
-        (0..self.count as usize).any(|axis| self.floor(axis, self.x(axis, i)) == LOWEST)
+        self.grid.is_none() && (0..self.count as usize).any(|axis| self.floor(axis, self.x(axis, i)) == LOWEST)
     }
 
-    // The Rust's answer; the axis count is 1 to 4.
+    // Whether the Rust can be asked.
+    pub fn can_ask(&self) -> bool {
+        can_ask(self.count, &self.dims, self.grid.as_deref())
+    }
+
+    // The Rust's answer, where it can be asked.
     pub fn answer(&self) -> Answer {
         match self.count {
             1 => self.run::<1>(),
@@ -83,15 +129,25 @@ impl Map {
     }
 
     fn run<const N: usize>(&self) -> Answer {
-        let dims: [usize; N] = std::array::from_fn(|axis| self.dims[axis] as usize);
-        let starts: [f64; N] = std::array::from_fn(|axis| self.starts[axis]);
-        let steps: [f64; N] = std::array::from_fn(|axis| self.steps[axis]);
-        let map = match MultiBsplineRegular::new(dims, starts, steps, &self.coefs, self.linear) {
-            Ok(map) => map,
-            Err(text) => {
-                let refused = Batch { number: number(Err(text)), written: 0 };
-                return Answer { values: refused, parts: refused, ones: Vec::new() };
+        match &self.grid {
+            None => {
+                let dims: [usize; N] = std::array::from_fn(|axis| self.dims[axis] as usize);
+                let starts: [f64; N] = std::array::from_fn(|axis| self.starts[axis]);
+                let steps: [f64; N] = std::array::from_fn(|axis| self.steps[axis]);
+                self.asked(MultiBsplineRegular::new(dims, starts, steps, &self.coefs, self.linear))
             }
+            Some(grid) => {
+                let grids: [&[f64]; N] = axes(&self.dims, grid);
+                self.asked(MultiBsplineRectilinear::new(&grids, &self.coefs, self.linear))
+            }
+        }
+    }
+
+    fn asked<const N: usize>(&self, built: Result<impl Asked<N>, &'static str>) -> Answer {
+        let number = number(&built);
+        let Ok(map) = built else {
+            let refused = Batch { number, written: 0 };
+            return Answer { values: refused, parts: refused, ones: Vec::new() };
         };
         let fits = self.values * N == self.xs.len() || self.parts == self.xs.len() && self.parts % N == 0;
         let ones: Vec<One> = if fits { (0..self.queries()).map(|i| self.one(&map, i)).collect() } else { Vec::new() };
@@ -102,19 +158,19 @@ impl Map {
     }
 
     // Query i by itself.
-    fn one<const N: usize>(&self, map: &MultiBsplineRegular<f64, N>, i: usize) -> One {
+    fn one<const N: usize>(&self, map: &impl Asked<N>, i: usize) -> One {
         let refused = One { number: 6, value: 0.0, parts: vec![0.0; N] };
         if self.overflows(i) {
             return refused;
         }
         let x: [f64; N] = std::array::from_fn(|axis| self.x(axis, i));
-        let value = map.interp_one(x);
-        let parts = map.interp_one_grad(x);
-        assert_eq!(number(value.map(|_| ())), number(parts.map(|_| ())), "value and gradient are refused together");
+        let value = map.value(x);
+        let parts = map.gradient(x);
+        assert_eq!(number(&value), number(&parts), "value and gradient are refused together");
         match (value, parts) {
             (Ok(value), Ok(parts)) => One { number: 0, value, parts: parts.to_vec() },
             (refusal, _) => {
-                assert_eq!(number(refusal.map(|_| ())), 6);
+                assert_eq!(number(&refusal), 6);
                 refused
             }
         }
@@ -128,9 +184,9 @@ impl Map {
     }
 
     // The batch of values, held against the queries by themselves.
-    fn value_batch<const N: usize>(&self, map: &MultiBsplineRegular<f64, N>, ones: &[One]) -> Batch {
+    fn value_batch<const N: usize>(&self, map: &impl Asked<N>, ones: &[One]) -> Batch {
         let mut out = before(self.values);
-        let number = number(map.interp(&self.split(), &mut out));
+        let number = number(&map.values(&self.split(), &mut out));
         if number != 0 && number != 6 {
             assert_eq!(out, before(self.values), "a refusal changed the output");
             return Batch { number, written: 0 };
@@ -146,7 +202,7 @@ impl Map {
     }
 
     // The batch of gradients, likewise.
-    fn part_batch<const N: usize>(&self, map: &MultiBsplineRegular<f64, N>, ones: &[One]) -> Batch {
+    fn part_batch<const N: usize>(&self, map: &impl Asked<N>, ones: &[One]) -> Batch {
         let mut out = before(self.parts);
         let mut rest: &mut [f64] = &mut out;
         let mut pieces = Vec::new();
@@ -156,7 +212,7 @@ impl Map {
             rest = more;
         }
         let mut pieces: [&mut [f64]; N] = pieces.try_into().unwrap();
-        let number = number(map.interp_grad(&self.split(), &mut pieces));
+        let number = number(&map.gradients(&self.split(), &mut pieces));
         if number != 0 && number != 6 {
             assert_eq!(out, before(self.parts), "a refusal changed the output");
             return Batch { number, written: 0 };
@@ -195,15 +251,4 @@ fn expected(ones: &[One]) -> Batch {
 
 fn same(a: &[f64], b: &[f64]) -> bool {
     a.len() == b.len() && a.iter().zip(b).all(|(x, y)| x.to_bits() == y.to_bits() || x.is_nan() && y.is_nan())
-}
-
-// The number of the Rust's answer.
-fn number(result: Result<(), &'static str>) -> u64 {
-    match result {
-        Ok(()) => 0,
-        Err("Dimension mismatch") => 2,
-        Err("All grids must be monotonically increasing") => 5,
-        Err("Unrepresentable coordinate value") => 6,
-        Err(text) => panic!("no number for: {text}"),
-    }
 }

@@ -1,8 +1,10 @@
-// The maps whose queries are answered: every axis count, grid, kind of coefficients and place.
+// The regular maps whose queries are answered: every axis count, grid, kind of coefficients and place.
 use crate::list::List;
 use crate::map::Map;
-use crate::random::Random;
-use crate::samples::{KINDS, samples};
+use crate::rectilinear_maps;
+use crate::shared::random::Random;
+use crate::shared::samples::{KINDS, samples};
+use crate::shared::words::junk;
 
 const SEED: u64 = 0x26_574e_b564;
 
@@ -30,8 +32,8 @@ pub fn add(list: &mut List) {
     far(list, &mut random);
     bad_starts(list, &mut random);
     stopped(list, &mut random);
-    mixed_lengths(list, &mut random);
-    empty(list, &mut random);
+    mixed_lengths(list, &mut random, |random, count, linear| bare(random, "ordinary", "ordinary", count, linear));
+    empty(list, &mut random, |random, count, linear| bare(random, "ordinary", "any bits", count, linear));
     overflows(list, &mut random);
 }
 
@@ -45,15 +47,20 @@ fn turns(grid: &str, count: usize) -> usize {
     }
 }
 
-fn coefficients(random: &mut Random, turn: usize) -> &'static str {
+pub fn coefficients(random: &mut Random, turn: usize) -> &'static str {
     if turn < 2 { "ordinary" } else { random.pick(&KINDS) }
 }
 
 fn one(list: &mut List, random: &mut Random, grid: &str, kind: &str, count: usize, linear: bool) {
-    let mut map = bare(random, grid, kind, count, linear);
-    let n = [28, 20, 14, 12][count - 1];
+    let map = bare(random, grid, kind, count, linear);
+    asked(list, random, grid, map);
+}
+
+// The map is asked as many queries as one of its axis count has.
+pub fn asked(list: &mut List, random: &mut Random, grid: &str, mut map: Map) {
+    let n = [28, 20, 14, 12][map.count as usize - 1];
     ask(random, &mut map, n);
-    list.map(&format!("{count} axes, {grid}"), &map);
+    list.map(&format!("{} axes, {grid}", map.count), &map);
 }
 
 // A map with no queries yet.
@@ -68,11 +75,7 @@ pub fn bare(random: &mut Random, grid: &str, kind: &str, count: usize, linear: b
     }
     let size: u64 = dims[..count].iter().product();
     let coefs = samples(random, kind, size as usize);
-    Map { count: count as u64, dims, starts, steps, linear, coefs, xs: Vec::new(), values: 0, parts: 0 }
-}
-
-fn junk(random: &mut Random) -> [u64; 4] {
-    std::array::from_fn(|_| random.pick(&[0, 1, 3, 4, 9, 1 << 24, 1 << 63, u64::MAX]))
+    Map { count: count as u64, dims, starts, steps, grid: None, linear, coefs, xs: Vec::new(), values: 0, parts: 0 }
 }
 
 // Start and step of an axis.
@@ -97,7 +100,10 @@ pub fn ask(random: &mut Random, map: &mut Map, n: usize) {
     map.xs = vec![0.0; count * n];
     for axis in 0..count {
         for i in 0..n {
-            map.xs[axis * n + i] = coordinate(random, map, axis);
+            map.xs[axis * n + i] = match map.knots(axis) {
+                None => coordinate(random, map, axis),
+                Some(knots) => rectilinear_maps::coordinate(random, knots),
+            };
         }
     }
     map.values = n;
@@ -212,10 +218,10 @@ fn stopped(list: &mut List, random: &mut Random) {
 }
 
 // One of the two outputs has a wrong length: that batch alone is refused.
-fn mixed_lengths(list: &mut List, random: &mut Random) {
+pub fn mixed_lengths(list: &mut List, random: &mut Random, bare: fn(&mut Random, usize, bool) -> Map) {
     for count in 1..=4 {
         for turn in 0..6 {
-            let mut map = bare(random, "ordinary", "ordinary", count, turn % 2 == 1);
+            let mut map = bare(random, count, turn % 2 == 1);
             ask(random, &mut map, 3);
             match turn {
                 0 => map.values += 1,
@@ -231,10 +237,10 @@ fn mixed_lengths(list: &mut List, random: &mut Random) {
 }
 
 // No queries: accepted, and nothing is written.
-fn empty(list: &mut List, random: &mut Random) {
+pub fn empty(list: &mut List, random: &mut Random, bare: fn(&mut Random, usize, bool) -> Map) {
     for count in 1..=4 {
         for linear in [false, true] {
-            let mut map = bare(random, "ordinary", "any bits", count, linear);
+            let mut map = bare(random, count, linear);
             ask(random, &mut map, 0);
             list.map(&format!("{count} axes, no queries"), &map);
         }

@@ -1,12 +1,24 @@
-// The records that are refused as a whole: each refusal by itself, and several at once, where the first in the fixed order is
-// the answer.
+// The records on regular grids that are refused as a whole: each refusal by itself, and several at once, where the first in
+// the fixed order is the answer.
 use crate::list::List;
 use crate::map::Map;
 use crate::maps::{ask, bare};
-use crate::random::Random;
+use crate::shared::random::Random;
 
 const SEED: u64 = 0x26_574e_b565;
-const EACH: usize = 24;
+pub const EACH: usize = 24;
+
+// More than 16,777,216 points, also past 64 bits.
+pub const LARGE: [&[u64]; 8] = [
+    &[16_777_217],
+    &[u64::MAX],
+    &[4096, 4097],
+    &[1 << 32, 1 << 32],
+    &[(1 << 62) + 4, 4],
+    &[256, 256, 257],
+    &[1 << 22, 1 << 21, 1 << 21],
+    &[64, 64, 64, 65],
+];
 
 pub fn add(list: &mut List) {
     let mut random = Random::new(SEED);
@@ -15,7 +27,7 @@ pub fn add(list: &mut List) {
     too_many_points(list, &mut random);
     coefficient_lengths(list, &mut random);
     steps(list, &mut random);
-    lengths(list, &mut random);
+    lengths(list, &mut random, good);
 }
 
 fn good(random: &mut Random) -> Map {
@@ -43,7 +55,7 @@ fn spoil_steps(random: &mut Random, map: &mut Map) {
     spoil_lengths(random, map);
 }
 
-fn spoil_lengths(random: &mut Random, map: &mut Map) {
+pub fn spoil_lengths(random: &mut Random, map: &mut Map) {
     if random.below(3) == 0 {
         map.values += 1;
     }
@@ -80,20 +92,10 @@ fn short_axes(list: &mut List, random: &mut Random) {
     }
 }
 
-// 3: more than 16,777,216 points, also past 64 bits. The Rust finds too few coefficients and says 2.
+// 3: too many points. The Rust finds too few coefficients and says 2.
 fn too_many_points(list: &mut List, random: &mut Random) {
-    let shapes: [&[u64]; 8] = [
-        &[16_777_217],
-        &[u64::MAX],
-        &[4096, 4097],
-        &[1 << 32, 1 << 32],
-        &[(1 << 62) + 4, 4],
-        &[256, 256, 257],
-        &[1 << 22, 1 << 21, 1 << 21],
-        &[64, 64, 64, 65],
-    ];
     for i in 0..EACH {
-        let dims = shapes[i % 8];
+        let dims = LARGE[i % 8];
         let linear = random.below(2) == 0;
         let mut map = bare(random, "ordinary", "ordinary", dims.len(), linear);
         ask(random, &mut map, 2);
@@ -127,7 +129,7 @@ fn steps(list: &mut List, random: &mut Random) {
 }
 
 // 2: coordinates that are too few or too many, so that neither output fits, or both outputs of a wrong length.
-fn lengths(list: &mut List, random: &mut Random) {
+pub fn lengths(list: &mut List, random: &mut Random, good: fn(&mut Random) -> Map) {
     for i in 0..2 * EACH {
         let mut map = good(random);
         let n = map.xs.len();

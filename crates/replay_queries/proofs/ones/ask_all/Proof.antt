@@ -7,10 +7,10 @@ use Rattle.replay_queries.proofs.ones.ask_all.Statement.{statement}
 use Rattle.replay_queries.proofs.ones.ask_all.Tie as tie
 
 abbrev Inv-loop : tie.InvT-loop
-Inv-loop numbers coeffs xs x₀ answers₀ values₀ parts₀ n i₀ x answers values parts i = (length x ≡ length x₀) × (length answers ≡ length answers₀) × (length values ≡ length values₀) × (length parts ≡ length parts₀) × (i ≤ n)
+Inv-loop numbers grid coeffs xs x₀ answers₀ values₀ parts₀ n i₀ x answers values parts i = (length x ≡ length x₀) × (length answers ≡ length answers₀) × (length values ≡ length values₀) × (length parts ≡ length parts₀) × (i ≤ n)
 
 abbrev μ-loop : tie.MeasureT-loop
-μ-loop numbers coeffs xs x₀ answers₀ values₀ parts₀ n i₀ x answers values parts i = n - i
+μ-loop numbers grid coeffs xs x₀ answers₀ values₀ parts₀ n i₀ x answers values parts i = n - i
 
 pub ask-all-spec : {M : Type 1} → statement M
 ask-all-spec =

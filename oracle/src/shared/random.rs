@@ -29,6 +29,13 @@ impl Random {
         choices[self.below(choices.len() as u64) as usize]
     }
 
+    // One of the choices, and each of the others with a chance of one in three, in their order.
+    pub fn some<T: Copy>(&mut self, choices: &[T]) -> Vec<T> {
+        let one = self.below(choices.len() as u64) as usize;
+        let chosen = choices.iter().enumerate().filter(|&(i, _)| i == one || self.below(3) == 0);
+        chosen.map(|(_, &choice)| choice).collect()
+    }
+
     // A float of either sign, evenly from -1 to 1, with 53 bits.
     pub fn unit(&mut self) -> f64 {
         let size = (self.bits() >> 11) as f64 / (1u64 << 53) as f64;

@@ -1,5 +1,5 @@
 // The kinds of samples that the fits are tried with.
-use crate::random::Random;
+use super::random::Random;
 
 pub const KINDS: [&str; 16] = [
     "ordinary",

@@ -1,13 +1,24 @@
 // The counts of a run, and how they are printed.
-use crate::record::Outcome;
 use libc::STDOUT_FILENO;
 
+// What came of a record.
+pub enum Outcome {
+    // the list has no more records
+    End,
+    Unreadable,
+    // by how much each of the three counts of the program grows, and whether all was as the record expects
+    Replayed {
+        first: u64,
+        second: u64,
+        third: u64,
+        is_same: bool,
+    },
+}
+
 pub struct Tally {
-    // maps whose queries are answered one by one, and those queries
-    maps: u64,
-    queries: u64,
-    // records that are refused as a whole
-    refused: u64,
+    first: u64,
+    second: u64,
+    third: u64,
     // records of which something differs
     differ: u64,
     records: u64,
@@ -27,22 +38,14 @@ fn more(n: u64, k: u64) -> u64 {
 impl Tally {
     pub fn new() -> Tally {
         Tally {
-            maps: 0,
-            queries: 0,
-            refused: 0,
+            first: 0,
+            second: 0,
+            third: 0,
             differ: 0,
             records: 0,
             is_going: true,
             is_whole: false,
         }
-    }
-
-    fn one_record(mut self, is_same: bool) -> Tally {
-        self.records = more(self.records, 1);
-        if !is_same {
-            self.differ = more(self.differ, 1);
-        }
-        self
     }
 
     // The end of the list, or of what can be read of it.
@@ -52,15 +55,15 @@ impl Tally {
         self
     }
 
-    fn map(mut self, queries: u64, is_same: bool) -> Tally {
-        self.maps = more(self.maps, 1);
-        self.queries = more(self.queries, queries);
-        self.one_record(is_same)
-    }
-
-    fn refusal(mut self, is_same: bool) -> Tally {
-        self.refused = more(self.refused, 1);
-        self.one_record(is_same)
+    fn replayed(mut self, first: u64, second: u64, third: u64, is_same: bool) -> Tally {
+        self.first = more(self.first, first);
+        self.second = more(self.second, second);
+        self.third = more(self.third, third);
+        self.records = more(self.records, 1);
+        if !is_same {
+            self.differ = more(self.differ, 1);
+        }
+        self
     }
 
     // The counts after a record.
@@ -68,20 +71,25 @@ impl Tally {
         match outcome {
             Outcome::End => self.stopped(true),
             Outcome::Unreadable => self.stopped(false),
-            Outcome::Map(queries, is_same) => self.map(queries, is_same),
-            Outcome::Refused(is_same) => self.refusal(is_same),
+            Outcome::Replayed {
+                first,
+                second,
+                third,
+                is_same,
+            } => { self.replayed(first, second, third, is_same) }
         }
     }
 
-    // The counts; or, where the list could not be read to its end, only the number of the record that stopped it.
-    pub fn print(self) {
+    // The counts by their names; or, where the list could not be read to its end, only the number of the record that stopped
+    // it.
+    pub fn print(self, first: &[u8], second: &[u8], third: &[u8]) {
         if !self.is_whole {
             print_line(b"unreadable,", more(self.records, 1));
             return;
         }
-        print_line(b"maps,", self.maps);
-        print_line(b"queries,", self.queries);
-        print_line(b"refused,", self.refused);
+        print_line(first, self.first);
+        print_line(second, self.second);
+        print_line(third, self.third);
         print_line(b"differ,", self.differ);
     }
 }

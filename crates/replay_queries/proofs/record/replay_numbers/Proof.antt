@@ -1,21 +1,17 @@
--- `replay_queries::record::replay` meets its contract. Assumes nothing.
+-- `replay_queries::record::replay_numbers` meets its contract. Assumes nothing.
 use native.Mathlib.Omega.{arith}
 use lib.ListN.{length-take}
 use borrow.Author.Needs.{needs}
-use Rattle.replay_queries.proofs.record.replay.Statement.{statement}
-use Rattle.replay_queries.proofs.record.replay.Tie as tie
+use Rattle.replay_queries.proofs.record.replay_numbers.Statement.{statement}
+use Rattle.replay_queries.proofs.record.replay_numbers.Tie as tie
 
-pub replay-spec : {M : Type 1} → statement M
-replay-spec =
+pub replay-numbers-spec : {M : Type 1} → statement M
+replay-numbers-spec =
     tie.close
     (tie.spec
     (λ c. search needs)
     (λ c κs. search needs)
     (λ c. search needs)
-    (λ c. search needs)
-    (λ c κs. search needs)
-    (λ c. search needs)
-    (λ c. search needs)
     (λ c κs. search needs)
     (λ c. search needs)
     (λ c κs. search needs)
@@ -23,7 +19,8 @@ replay-spec =
     (λ c. search needs)
     (λ c. search needs)
     (λ c. search needs)
-    (λ c. simp length-take (omega arith))
+    (λ c. search needs)
+    (λ c. search needs)
     (λ c. search needs)
     (λ c. simp length-take (omega arith))
     (λ c κs. simp length-take (search needs))

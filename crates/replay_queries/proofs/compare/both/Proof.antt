@@ -1,0 +1,18 @@
+-- `replay_queries::compare::both` meets its contract. Assumes nothing.
+use Rattle.oracle_list.proofs.WordLaws.{not-unreadable, not-differs}
+use borrow.Author.Needs.{needs}
+use Rattle.replay_queries.proofs.compare.both.Statement.{statement}
+use Rattle.replay_queries.proofs.compare.both.Tie as tie
+
+pub both-spec : {M : Type 1} → statement M
+both-spec =
+    tie.close
+    (tie.spec
+    (λ c. search needs)
+    (λ c. search needs)
+    (λ c. search needs)
+    (λ c. search needs)
+    (λ c. search needs)
+    (λ c. not-unreadable)
+    (λ c. not-differs)
+    (λ c. not-unreadable))

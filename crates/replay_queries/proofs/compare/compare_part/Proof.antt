@@ -1,0 +1,39 @@
+-- `replay_queries::compare::compare_part` meets its contract. Assumes nothing.
+use Rattle.oracle_list.proofs.WordLaws.{not-unreadable}
+use Rattle.replay_queries.proofs.Parts.{rest-whole}
+use native.Mathlib.Omega.{arith}
+use lib.ListN.{length-take}
+use borrow.Author.Needs.{needs}
+use Rattle.replay_queries.proofs.compare.compare_part.Statement.{statement}
+use Rattle.replay_queries.proofs.compare.compare_part.Tie as tie
+
+returns-3 : tie.Need-returns-3
+returns-3 c e =
+    let x = c .before .before .before in
+    let y = x .before .before .before in
+    let b = c .both .ensures e in
+    record {
+      done = x .compare .ensures (b .1);
+      left = rw (rest-whole _ _) at (rw (rest-whole _ _) at (y .compare-unwritten .ensures (b .0)));
+    }
+
+pub compare-part-spec : {M : Type 1} → statement M
+compare-part-spec =
+    tie.close
+    (tie.spec
+    (λ c. not-unreadable)
+    (λ c. not-unreadable)
+    (λ c. search needs)
+    (λ c. search needs)
+    (λ c. search needs)
+    (λ c. search needs)
+    (λ c. search needs)
+    (λ c. search needs)
+    (λ c. search needs)
+    (λ c. search needs)
+    (λ c κs. search needs)
+    (λ c. simp length-take (omega arith))
+    (λ c κs. search needs)
+    (λ c κs. search needs)
+    (λ c. search needs)
+    returns-3)

@@ -1,0 +1,28 @@
+-- `replay_queries::record::replay_parts` meets its contract. Assumes nothing.
+use native.Mathlib.Omega.{arith}
+use lib.ListN.{length-take}
+use borrow.Author.Needs.{needs}
+use Rattle.replay_queries.proofs.record.replay_parts.Statement.{statement}
+use Rattle.replay_queries.proofs.record.replay_parts.Tie as tie
+
+pub replay-parts-spec : {M : Type 1} → statement M
+replay-parts-spec =
+    tie.close
+    (tie.spec
+    (λ c. search needs)
+    (λ c. simp length-take (omega arith))
+    (λ c. search needs)
+    (λ c. search needs)
+    (λ c. search needs)
+    (λ c. search needs)
+    (λ c. search needs)
+    (λ c. search needs)
+    (λ c. search needs)
+    (λ c. search needs)
+    (λ c κs. search needs)
+    (λ c. search needs)
+    (λ c. search needs)
+    (λ c. search needs)
+    (λ c. search needs)
+    (λ c. search needs)
+    (λ c. search needs))
