@@ -23,7 +23,7 @@ pub fn copy(vals: &[f64], coeffs: &mut [f64])
 }
 
 // The place of entry i of a line of n, within `len`.
-fn place(base: usize, stride: usize, n: usize, i: usize, len: usize) -> usize
+pub fn place(base: usize, stride: usize, n: usize, i: usize, len: usize) -> usize
     requires { ⌜ (i < n) × (onLine base stride (n - 1) < len) ⌝ }
     ensures { λ r. ⌜ (r ≡ onLine base stride i) × (r < len) ⌝ }
 {

@@ -58,7 +58,7 @@ fn check_fit(
 }
 
 // Line l of an axis with the given knots, which are s apart in the map; m is the length of the longest axis.
-fn solve_nth(
+pub fn solve_nth(
     grid: &[f64],
     low_ghost: Ghost,
     high_ghost: Ghost,

@@ -3,5 +3,6 @@ mod fit;
 mod line;
 
 pub use fit::coefficients;
+pub use fit::solve_nth;
 pub use line::solve_checked;
 pub use line::solve_line;

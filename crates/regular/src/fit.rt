@@ -36,7 +36,7 @@ fn check_fit(shape: Shape, vals: usize, coeffs: usize, scratch: usize) -> Answer
 }
 
 // Line l of an axis of n points that are s apart; m is the length of the longest axis.
-fn solve_nth(
+pub fn solve_nth(
     n: usize,
     s: usize,
     lines: usize,

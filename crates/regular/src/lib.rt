@@ -3,4 +3,5 @@ mod fit;
 mod line;
 
 pub use fit::coefficients;
+pub use fit::solve_nth;
 pub use line::solve_line;
