@@ -1,0 +1,32 @@
+use Prim.Native.Nat.{_-_}
+use native.Mathlib.Omega.{arith}
+use denote.Ref.{now}
+use borrow.Author.Needs.{needs}
+use Rattle.book.specs.LineCall.{byteAbove}
+use Rattle.book.proofs.Tests.{NoneYet, none-start, none-done}
+use Rattle.book.proofs.Bytes.{above-step, above-found}
+use Rattle.ledger.proofs.bytes.any_above.Statement.{statement}
+use Rattle.ledger.proofs.bytes.any_above.Tie as tie
+
+abbrev Inv : tie.InvT-loop
+Inv a base stride n ledger i₀ i = NoneYet (byteAbove a base stride ledger) n i
+
+abbrev μ : tie.MeasureT-loop
+μ a base stride n ledger i₀ i = n - i
+
+returns : tie.Need-returns Inv μ
+returns c =
+    let t = c .before .before in
+    let a = t .before .before .before .args in
+    above-found (a .a) (a .base) (a .stride) (a .n) (now (a .ledger)) (t .before .loop .i) (t .loop-test .taken) (omega (arith, c .before .byte .ensures, c .if1 .taken))
+
+loop-again : tie.Need-loop-again Inv μ
+loop-again c =
+    let t = c .before .before in
+    let a = t .before .before .before .args in
+    above-step (a .a) (a .base) (a .stride) (a .n) (now (a .ledger)) (t .before .loop .i) (t .before .loop .inv) (t .loop-test .taken) (omega (arith, c .before .byte .ensures, c .if1 .left))
+
+pub any-above-spec : {M : Type 1} → statement M
+any-above-spec =
+    tie.close
+    (tie.spec Inv μ (λ c. none-start _ _) (λ c κs. search needs) returns (λ c. search needs) (λ c. search needs) loop-again (λ c. none-done _ _ _ (c .before .loop .inv) (c .loop-test .left)))
