@@ -1,0 +1,4 @@
+pub mod Runs
+pub mod OneLine
+pub mod Regular
+pub mod Rectilinear
