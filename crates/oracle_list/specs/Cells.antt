@@ -2,8 +2,16 @@
 use mathlib.Core.Bool.{Bool, true, false, _&&_}
 use mathlib.Core.List.{List, [], _∷_}
 use Prim.Native.Nat.{ℕ, zero, suc}
-use lib.Ieee.{Float, binary64, add, sub, neg, le}
+use lib.IntN.{pos, negsuc}
+use lib.Ieee.{Float, fin, binary64, add, sub, neg, le}
 use Rattle.float_text.specs.Bits.{sameBits}
+
+-- 1/2 and 1
+abbrev pub half : Float
+half = fin false 1 (negsuc 0)
+
+abbrev pub one : Float
+one = fin false 1 (pos 0)
 
 -- n cells that count from x on, by a step
 unfoldable pub counted : Float → Float → ℕ → List Float

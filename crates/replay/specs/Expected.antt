@@ -7,16 +7,10 @@ use lib.IntN.{pos, negsuc}
 use lib.ListN.{length, getD}
 use lib.Ieee.{Float, fin}
 use Rattle.float_text.specs.Bits.{sameBits}
-use Rattle.oracle_list.specs.Cells.{counted, sameCells, isNear}
+use Rattle.oracle_list.specs.Cells.{half, one, counted, sameCells, isNear}
 use Rattle.oracle_list.specs.Words.{float, MatchWords}
 
--- 1/2, 1, -1/4 and -1
-abbrev pub half : Float
-half = fin false 1 (negsuc 0)
-
-abbrev pub one : Float
-one = fin false 1 (pos 0)
-
+-- -1/4 and -1
 abbrev pub minusQuarter : Float
 minusQuarter = fin true 1 (negsuc 1)
 

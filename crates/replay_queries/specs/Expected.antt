@@ -1,21 +1,13 @@
 -- What a record of the list expects of its batches and its queries. Assumes nothing.
 use mathlib.Core.Path.{_≡_}
-use mathlib.Core.Bool.{true, false}
+use mathlib.Core.Bool.{true}
 use mathlib.Core.List.{List}
 use Prim.Native.Nat.{ℕ, _+_, _*_, _<_}
-use lib.IntN.{pos, negsuc}
 use lib.ListN.{length, take, drop}
-use lib.Ieee.{Float, fin}
+use lib.Ieee.{Float}
 use Rattle.float_text.specs.Bits.{sameBits}
-use Rattle.oracle_list.specs.Cells.{counted, sameCells}
+use Rattle.oracle_list.specs.Cells.{half, one, counted, sameCells}
 use Rattle.oracle_list.specs.Words.{MatchWords}
-
--- 1/2 and 1
-abbrev pub half : Float
-half = fin false 1 (negsuc 0)
-
-abbrev pub one : Float
-one = fin false 1 (pos 0)
 
 -- n cells of an output as they are before a batch: cell i holds i + 1/2
 abbrev pub unwritten : ℕ → List Float

@@ -3,6 +3,7 @@ ghost use mathlib.Core.Path.{_≡_};
 ghost use lib.ListN.{length};
 use evaluation::Gradient;
 use evaluation::Valued;
+use rectilinear_map::Built;
 use rectilinear_map::MultiBsplineRectilinear;
 use rectilinear_weights::Ghost;
 use regular_map::MultiBsplineRegular;
@@ -26,6 +27,16 @@ fn dims(numbers: &[u64]) -> [usize; 4]
     ]
 }
 
+fn shape_of(numbers: &[u64]) -> Shape
+    requires { ⌜ length (now numbers) ≡ 16 ⌝ }
+{
+    let d = dims(numbers);
+    Shape {
+        count: size(numbers[0]),
+        dims: d,
+    }
+}
+
 // Float i of the grid; 0 where it has fewer.
 fn float_at(grid: &[f64], i: usize) -> f64 {
     if i < grid.len() {
@@ -34,23 +45,32 @@ fn float_at(grid: &[f64], i: usize) -> f64 {
     0.0
 }
 
-// The regular map: its grid is four starts, then four steps.
-fn regular(numbers: &[u64], grid: &[f64]) -> MultiBsplineRegular
-    requires { ⌜ length (now numbers) ≡ 16 ⌝ }
-{
-    let d = dims(numbers);
-    let a = [
+// A regular grid is four starts, then four steps.
+fn starts(grid: &[f64]) -> [f64; 4] {
+    [
         float_at(grid, 0),
         float_at(grid, 1),
         float_at(grid, 2),
         float_at(grid, 3),
-    ];
-    let h = [
+    ]
+}
+
+fn steps(grid: &[f64]) -> [f64; 4] {
+    [
         float_at(grid, 4),
         float_at(grid, 5),
         float_at(grid, 6),
         float_at(grid, 7),
-    ];
+    ]
+}
+
+// The regular map, with what the record has for axes not in use.
+fn regular(numbers: &[u64], grid: &[f64]) -> MultiBsplineRegular
+    requires { ⌜ length (now numbers) ≡ 16 ⌝ }
+{
+    let d = dims(numbers);
+    let a = starts(grid);
+    let h = steps(grid);
     MultiBsplineRegular {
         count: size(numbers[0]),
         dims: d,
@@ -60,20 +80,31 @@ fn regular(numbers: &[u64], grid: &[f64]) -> MultiBsplineRegular
     }
 }
 
+fn build_regular(numbers: &[u64], grid: &[f64], coeffs: &[f64]) -> Answer
+    requires { ⌜ length (now numbers) ≡ 16 ⌝ }
+{
+    let a = starts(grid);
+    let h = steps(grid);
+    let built = MultiBsplineRegular::new(shape_of(numbers), a, h, coeffs, numbers[5] != 0);
+    built.answer
+}
+
+fn build_rectilinear(numbers: &[u64], grid: &[f64], coeffs: &[f64]) -> Built
+    requires { ⌜ length (now numbers) ≡ 16 ⌝ }
+{
+    MultiBsplineRectilinear::new(shape_of(numbers), grid, coeffs, numbers[5] != 0)
+}
+
 // The rectilinear map: as building makes it, or, where that is refused, a record without ghost numbers, so that the call
 // itself refuses it.
 fn rectilinear(numbers: &[u64], grid: &[f64], coeffs: &[f64]) -> MultiBsplineRectilinear
     requires { ⌜ length (now numbers) ≡ 16 ⌝ }
 {
-    let count = size(numbers[0]);
-    let d = dims(numbers);
-    let flag = numbers[5] != 0;
-    let shape = Shape { count, dims: d };
-    let built = MultiBsplineRectilinear::new(shape, grid, coeffs, flag);
+    let built = build_rectilinear(numbers, grid, coeffs);
     let answer = built.answer;
     match answer {
         Answer::Accepted => built.map,
-        Answer::Refused(_) => bare(count, d, flag),
+        Answer::Refused(_) => bare(size(numbers[0]), dims(numbers), numbers[5] != 0),
     }
 }
 
@@ -102,6 +133,18 @@ fn is_rectilinear(numbers: &[u64]) -> bool
     requires { ⌜ length (now numbers) ≡ 16 ⌝ }
 {
     numbers[15] >= 8
+}
+
+// Building the map from its coefficients: the answer's number.
+pub fn built(numbers: &[u64], grid: &[f64], coeffs: &[f64]) -> u64
+    requires { ⌜ length (now numbers) ≡ 16 ⌝ }
+{
+    if is_rectilinear(numbers) {
+        let built = build_rectilinear(numbers, grid, coeffs);
+        let answer = built.answer;
+        return answer.number();
+    }
+    build_regular(numbers, grid, coeffs).number()
 }
 
 // The batch of values: its answer's number.

@@ -4,6 +4,7 @@ ghost use Prim.Native.Nat.{_+_, _≤_};
 ghost use lib.ListN.{length};
 ghost use Rattle.replay_queries.specs.Expected.{MatchOnes};
 use crate::batch;
+use crate::call;
 use crate::call::size;
 use crate::compare::both;
 use crate::ones;
@@ -82,7 +83,49 @@ fn replay_gradients(
     )
 }
 
-// The two batches. Where the record has no queries that are answered, n is 0.
+// Whether building the map answers as the record tells: it accepts a map whose queries are looked at, and refuses another with
+// the record's number. A 2 may be for the number of coordinates, which building does not see, but only where it does not go
+// with the number of values.
+fn is_built_right(numbers: &[u64], built: u64) -> bool
+    requires { ⌜ length (now numbers) ≡ 16 ⌝ }
+{
+    let wanted = numbers[11];
+    if is_answered(wanted, numbers[13]) {
+        return built == 0;
+    }
+    if built == wanted {
+        return true;
+    }
+    if wanted != 2 {
+        return false;
+    }
+    if agrees(numbers[0], numbers[8], numbers[9]) {
+        return false;
+    }
+    built == 0
+}
+
+// Whether there are as many coordinates as values on each of up to four axes.
+fn agrees(count: u64, coordinates: u64, values: u64) -> bool {
+    if count > 4 {
+        return false;
+    }
+    if values > 1024 {
+        return false;
+    }
+    coordinates == count * values
+}
+
+fn replay_built(numbers: &[u64], grid: &[f64], coeffs: &[f64]) -> Compared
+    requires { ⌜ length (now numbers) ≡ 16 ⌝ }
+{
+    if is_built_right(numbers, call::built(numbers, grid, coeffs)) {
+        return Compared::Same;
+    }
+    Compared::Differs
+}
+
+// Building the map, and the two batches. Where the record has no queries that are answered, n is 0.
 fn replay_batches(
     text: &[u8],
     numbers: &[u64],
@@ -114,7 +157,7 @@ fn replay_batches(
         before,
         spare,
     );
-    both(a, b)
+    both(replay_built(numbers, grid, coeffs), both(a, b))
 }
 
 // The queries by themselves, on buffers of their lengths: answers from word `first` on, then values, then gradients.

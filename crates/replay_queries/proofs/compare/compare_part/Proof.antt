@@ -11,10 +11,11 @@ returns-3 : tie.Need-returns-3
 returns-3 c e =
     let x = c .before .before .before in
     let y = x .before .before .before in
+    let a = y .before .before .before .before .before .before .before .before .before .args in
     let b = c .both .ensures e in
     record {
       done = x .compare .ensures (b .1);
-      left = rw (rest-whole _ _) at (rw (rest-whole _ _) at (y .compare-unwritten .ensures (b .0)));
+      left = rw (rest-whole (a .cells .now) (a .written), rest-whole (a .before .now) (a .written)) at (y .compare-unwritten .ensures (b .0));
     }
 
 pub compare-part-spec : {M : Type 1} → statement M

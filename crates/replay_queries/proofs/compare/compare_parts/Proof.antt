@@ -22,11 +22,19 @@ returns-3 c e =
     let t = c .both3 .ensures e in
     let ab = c .before .before .both .ensures (t .0) in
     let cd = c .before .both2 .ensures (t .1) in
-    let n = c .before .before .before .before .before .before .before .before .before .before .before .before .before .before .before .before .before .before .before .before .if1 .left in
+    let x4 = c .before .before .before .before .before in
+    let x3 = x4 .before .before .before .before in
+    let x2 = x3 .before .before .before .before in
+    let x1 = x2 .before .before .before .before in
+    let w = x1 .before .before in
+    let s = w .before .before .before .before .before .before in
+    let a = s .args in
+    let n = w .before .if1 .left in
     record {
       none = λ z. absurd (n z);
-      whole = λ _. c .before .before .before .before .before .before .before .before .before .before .before .before .before .before .before .before .before .before .before .if2 .left;
-      each = λ _. Parts-each _ _ _ _ _ _ _ (c .before .before .before .before .before .before .before .before .before .before .before .before .before .before .before .before .before .before .before .before .before .before .before .before .before .pre .2) (c .before .before .before .before .before .before .before .before .before .before .before .before .before .before .before .before .before .compare-axis .ensures (ab .0)) (c .before .before .before .before .before .before .before .before .before .before .before .before .before .compare-axis2 .ensures (ab .1)) (c .before .before .before .before .before .before .before .before .before .compare-axis3 .ensures (cd .0)) (c .before .before .before .before .before .compare-axis4 .ensures (cd .1));
+      whole = λ _. w .if2 .left;
+      each = λ _. Parts-each (a .text .now) (a .first) (a .count) (a .n) (a .written) (a .cells .now) (a .before .now) (s .pre .2)
+          (x1 .compare-axis .ensures (ab .0)) (x2 .compare-axis2 .ensures (ab .1)) (x3 .compare-axis3 .ensures (cd .0)) (x4 .compare-axis4 .ensures (cd .1));
     }
 
 pub compare-parts-spec : {M : Type 1} → statement M
