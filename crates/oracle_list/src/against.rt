@@ -12,6 +12,22 @@ pub enum Compared {
     Unreadable,
 }
 
+// What comes of two comparisons.
+pub fn both(a: Compared, b: Compared) -> Compared
+    ensures { λ r. ⌜ (r ≡ Compared.Same → (a ≡ Compared.Same) × (b ≡ Compared.Same)) ⌝ }
+{
+    match a {
+        Compared::Same => b,
+        Compared::Differs => {
+            match b {
+                Compared::Unreadable => Compared::Unreadable,
+                _ => Compared::Differs,
+            }
+        }
+        Compared::Unreadable => Compared::Unreadable,
+    }
+}
+
 // Cells against the words from `first` on, which are read into `read`, a buffer of that many cells.
 fn compare_read(text: &[u8], first: usize, cells: &[f64], read: &mut [f64]) -> Compared
     ensures { λ r. ⌜ (r ≡ Compared.Same → MatchWords sameBits (now (text .entry)) first (now (cells .entry))) ⌝ }

@@ -4,6 +4,7 @@ mod cells;
 mod words;
 
 pub use against::Compared;
+pub use against::both;
 pub use against::compare;
 pub use against::compare_near;
 pub use cells::fill;
@@ -14,3 +15,4 @@ pub use words::Head;
 pub use words::first_two;
 pub use words::read_floats;
 pub use words::read_numbers;
+pub use words::read_numbers_from;

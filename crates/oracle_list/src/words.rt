@@ -83,6 +83,17 @@ pub fn read_numbers(text: &[u8], out: &mut [u64]) -> bool
     true
 }
 
+// The words from word `first` on, likewise.
+pub fn read_numbers_from(text: &[u8], first: usize, out: &mut [u64]) -> bool
+    ensures { λ r. ⌜ AreWords number 0 (drop (first * 17) (now (text .entry))) (length (now (out .entry))) r (now (out .exit)) ⌝ }
+{
+    if text.len() / 17 < first {
+        return false;
+    }
+    let at = first * 17;
+    read_numbers(&text[at..], out)
+}
+
 // Word i, as a float, is put at place i. Whether it could be read.
 fn put_float(text: &[u8], i: usize, out: &mut [f64]) -> bool
     requires { ⌜ i < length (now out) ⌝ }

@@ -6,22 +6,7 @@ ghost use lib.ListN.{length, take, drop};
 ghost use Rattle.oracle_list.specs.Cells.{sameCells};
 ghost use Rattle.replay_queries.specs.Expected.{MatchPart, MatchParts};
 use oracle_list::Compared;
-
-// What comes of two comparisons.
-pub fn both(a: Compared, b: Compared) -> Compared
-    ensures { λ r. ⌜ (r ≡ Compared.Same → (a ≡ Compared.Same) × (b ≡ Compared.Same)) ⌝ }
-{
-    match a {
-        Compared::Same => b,
-        Compared::Differs => {
-            match b {
-                Compared::Unreadable => Compared::Unreadable,
-                _ => Compared::Differs,
-            }
-        }
-        Compared::Unreadable => Compared::Unreadable,
-    }
-}
+use oracle_list::both;
 
 // Cells as they were before.
 fn compare_unwritten(cells: &[f64], before: &[f64]) -> Compared

@@ -6,9 +6,9 @@ ghost use Rattle.replay_queries.specs.Expected.{MatchOnes};
 use crate::batch;
 use crate::call;
 use crate::call::size;
-use crate::compare::both;
 use crate::ones;
 use oracle_list::Compared;
+use oracle_list::both;
 use oracle_run::Outcome;
 
 // The batch of values.

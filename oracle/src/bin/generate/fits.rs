@@ -1,9 +1,8 @@
 // The accepted fits on regular grids: shapes of one to four axes, each with every kind of samples.
-use crate::call::Call;
 use crate::list::List;
+use crate::shared::call::call;
 use crate::shared::random::Random;
-use crate::shared::samples::{KINDS, samples};
-use crate::shared::words::junk;
+use crate::shared::samples::KINDS;
 
 const SEED: u64 = 0x26_574e_b562;
 
@@ -83,26 +82,4 @@ fn chosen(list: &mut List, random: &mut Random) {
 fn fit(list: &mut List, random: &mut Random, kind: &str, dims: &[u64]) {
     let call = call(random, kind, dims, None);
     list.fit(&format!("fit, {} axes, {kind}", dims.len()), &call);
-}
-
-// A call that is accepted, with enough scratch or some more.
-pub fn call(random: &mut Random, kind: &str, dims: &[u64], grid: Option<Vec<f64>>) -> Call {
-    let n: u64 = dims.iter().product();
-    let longest = *dims.iter().max().unwrap();
-    let more = random.pick(&[0, 0, 1, 2, 7]);
-    Call {
-        count: dims.len() as u64,
-        dims: padded(random, dims),
-        grid,
-        samples: samples(random, kind, n as usize),
-        coefs: n as usize,
-        scratch: (2 * longest + more) as usize,
-    }
-}
-
-// Four lengths. Those of no axis are zero, or anything at all: they are not to be looked at.
-pub fn padded(random: &mut Random, dims: &[u64]) -> [u64; 4] {
-    let mut out = if random.below(3) == 0 { junk(random) } else { [0; 4] };
-    out[..dims.len()].copy_from_slice(dims);
-    out
 }

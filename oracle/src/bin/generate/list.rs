@@ -1,5 +1,5 @@
 // The list: its words and its counts.
-use crate::call::{Answer, Call, coefs_before, scratch_before};
+use crate::shared::call::{Answer, Call, coefs_before, scratch_before};
 use crate::shared::words::{given, put_record, written};
 use std::collections::BTreeMap;
 

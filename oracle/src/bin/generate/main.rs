@@ -1,13 +1,11 @@
 // Writes the fixed list of fits and their answers to standard output, and its counts to standard error. Nothing here depends
 // on the time, the environment or the machine. ../../../README.md describes the list.
-mod call;
 mod fits;
 mod list;
 mod published;
 mod rectilinear_fits;
 mod rectilinear_refusals;
 mod refusals;
-mod shapes;
 #[allow(dead_code)]
 #[path = "../../shared/mod.rs"]
 mod shared;

@@ -1,7 +1,7 @@
 // Published figures on cubic B-splines: the README cites them. The coefficients here are the published ones, and the Rust's
 // answer is only held against them.
-use crate::call::Call;
 use crate::list::List;
+use crate::shared::call::Call;
 
 pub fn add(list: &mut List) {
     for n in 7..=16 {

@@ -1,6 +1,7 @@
 // The accepted fits on rectilinear grids: every kind of grid, and every kind of samples.
-use crate::fits::{call, drawn};
+use crate::fits::drawn;
 use crate::list::List;
+use crate::shared::call::call;
 use crate::shared::grids::{GRIDS, joined};
 use crate::shared::random::Random;
 use crate::shared::samples::KINDS;

@@ -1,12 +1,11 @@
 // The refused calls on rectilinear grids: each refusal by itself, and several at once, where the first in the fixed order is
 // the answer.
-use crate::call::Call;
-use crate::fits::{call, padded};
 use crate::list::List;
 use crate::refusals::shorten_samples;
-use crate::shapes::{LARGE, MOST, large, wrapped};
+use crate::shared::call::{Call, call, padded};
 use crate::shared::grids::{FAULTS, joined, knots, places, resize, spoil, spoil_any};
 use crate::shared::random::Random;
+use crate::shared::shapes::{LARGE, MOST, large, wrapped};
 
 const SEED: u64 = 0x26_574e_b567;
 const EACH: usize = 42;

@@ -1,11 +1,10 @@
 // The refused calls on regular grids: each refusal by itself, and several at once, where the first in the fixed order is the
 // answer.
-use crate::call::Call;
-use crate::fits::padded;
 use crate::list::List;
-use crate::shapes::{LARGE, MOST, large, wrapped};
+use crate::shared::call::{Call, padded};
 use crate::shared::random::Random;
 use crate::shared::samples::samples;
+use crate::shared::shapes::{LARGE, MOST, large, wrapped};
 
 const SEED: u64 = 0x26_574e_b562 + 1;
 const EACH: usize = 140;

@@ -1,12 +1,11 @@
 // The list: its words and its counts.
 use crate::map::{Answer, Batch, Map};
+use crate::shared::axis::PLACES;
 use crate::shared::words::{given, put_record, written};
 use std::collections::BTreeMap;
 
 // The most cells of each buffer of the replaying program.
 const MOST_CELLS: usize = 1024;
-
-const PLACES: [&str; 5] = ["OutsideLow", "InsideLow", "None", "InsideHigh", "OutsideHigh"];
 
 pub struct List {
     text: Vec<u8>,
@@ -60,7 +59,7 @@ impl List {
         self.record(class, kind, map, answer);
         for (i, one) in answer.ones.iter().enumerate() {
             for axis in 0..map.count as usize {
-                let place = if one.number == 0 { place(map, axis, map.x(axis, i)) } else { "of refused queries" };
+                let place = if one.number == 0 { map.axis(axis).place(map.x(axis, i)) } else { "of refused queries" };
                 *self.places.entry((grid_name(map), map.count, axis, map.linear, place)).or_default() += 1;
             }
         }
@@ -136,25 +135,5 @@ impl List {
         let least = all.map(|(linear, place)| axes.clone().map(|axis| find(axis, linear, place)).sum::<usize>()).min();
         let (rarest, least) = (rarest.unwrap(), least.unwrap());
         eprintln!("{least:5} coordinates of each place and flag, {rarest} on each axis: {grid}, {count} axes");
-    }
-}
-
-// The place of a coordinate, from the papers' rule: only for the counts.
-fn place(map: &Map, axis: usize, x: f64) -> &'static str {
-    let cell = match map.knots(axis) {
-        None => map.floor(axis, x) - 1.0,
-        Some(knots) => knots.iter().filter(|&&knot| knot < x).count() as f64 - 2.0,
-    };
-    let last = map.dims[axis] as f64 - 3.0;
-    if cell < -1.0 {
-        "OutsideLow"
-    } else if cell == -1.0 {
-        "InsideLow"
-    } else if cell > last {
-        "OutsideHigh"
-    } else if cell == last {
-        "InsideHigh"
-    } else {
-        "None"
     }
 }

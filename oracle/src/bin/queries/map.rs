@@ -1,4 +1,6 @@
 // One map with a batch of queries, and what the Rust answers to it.
+use crate::shared::asked::Asked;
+use crate::shared::axis::Axis;
 use crate::shared::grids::{axes, can_ask, places};
 use crate::shared::words::number;
 use interpn::multibspline::rectilinear::MultiBsplineRectilinear;
@@ -45,8 +47,6 @@ pub struct Answer {
     pub ones: Vec<One>,
 }
 
-const LOWEST: f64 = -9223372036854775808.0;
-
 // What output cell i holds before a call.
 pub fn before(n: usize) -> Vec<f64> {
     (0..n).map(|i| i as f64 + 0.5).collect()
@@ -57,40 +57,12 @@ fn ends(n: usize, count: usize) -> Vec<usize> {
     (0..count).map(|k| n / count + usize::from(k < n % count)).collect()
 }
 
-// What the Rust's two kinds of maps can be asked.
-trait Asked<const N: usize> {
-    fn value(&self, x: [f64; N]) -> Result<f64, &'static str>;
-    fn gradient(&self, x: [f64; N]) -> Result<[f64; N], &'static str>;
-    fn values(&self, x: &[&[f64]; N], out: &mut [f64]) -> Result<(), &'static str>;
-    fn gradients(&self, x: &[&[f64]; N], out: &mut [&mut [f64]; N]) -> Result<(), &'static str>;
-}
-
-macro_rules! asked {
-    ($map:ident) => {
-        impl<const N: usize> Asked<N> for $map<'_, f64, N> {
-            fn value(&self, x: [f64; N]) -> Result<f64, &'static str> {
-                self.interp_one(x)
-            }
-            fn gradient(&self, x: [f64; N]) -> Result<[f64; N], &'static str> {
-                self.interp_one_grad(x)
-            }
-            fn values(&self, x: &[&[f64]; N], out: &mut [f64]) -> Result<(), &'static str> {
-                self.interp(x, out)
-            }
-            fn gradients(&self, x: &[&[f64]; N], out: &mut [&mut [f64]; N]) -> Result<(), &'static str> {
-                self.interp_grad(x, out)
-            }
-        }
-    };
-}
-
-asked!(MultiBsplineRegular);
-asked!(MultiBsplineRectilinear);
-
 impl Map {
-    // The floor of a coordinate's quotient on a regular grid.
-    pub fn floor(&self, axis: usize, x: f64) -> f64 {
-        ((x - self.starts[axis]) / self.steps[axis]).floor()
+    pub fn axis(&self, axis: usize) -> Axis<'_> {
+        match self.knots(axis) {
+            None => Axis::Regular { n: self.dims[axis], start: self.starts[axis], step: self.steps[axis] },
+            Some(knots) => Axis::Rectilinear(knots),
+        }
     }
 
     // The knots of an axis of a rectilinear grid, which has as many as the lengths say.
@@ -109,7 +81,7 @@ impl Map {
 
     // Whether the Rust's subtraction overflows at query i: there it is not asked.
     pub fn overflows(&self, i: usize) -> bool {
-        self.grid.is_none() && (0..self.count as usize).any(|axis| self.floor(axis, self.x(axis, i)) == LOWEST)
+        (0..self.count as usize).any(|axis| self.axis(axis).overflows(self.x(axis, i)))
     }
 
     // Whether the Rust can be asked.

@@ -1,22 +1,16 @@
 // The regular maps whose queries are answered: every axis count, grid, kind of coefficients and place.
 use crate::list::List;
 use crate::map::Map;
-use crate::rectilinear_maps;
+use crate::shared::axis::{REGULAR, TWO_63, start_and_step};
 use crate::shared::random::Random;
 use crate::shared::samples::{KINDS, samples};
 use crate::shared::words::junk;
 
 const SEED: u64 = 0x26_574e_b564;
 
-// The grids: starts and steps.
-const GRIDS: [&str; 10] =
-    ["unit", "ordinary", "fine", "coarse", "tiny", "subnormal", "huge", "lost digits", "infinite step", "any step"];
-
-const TWO_63: f64 = 9223372036854775808.0;
-
 pub fn add(list: &mut List) {
     let mut random = Random::new(SEED);
-    for grid in GRIDS {
+    for grid in REGULAR {
         for count in 1..=4 {
             for turn in 0..turns(grid, count) {
                 let kind = coefficients(&mut random, turn);
@@ -71,27 +65,11 @@ pub fn bare(random: &mut Random, grid: &str, kind: &str, count: usize, linear: b
     let mut steps = if random.below(3) == 0 { [0.0, -1.0, f64::NAN, 1.0] } else { [0.0; 4] };
     for axis in 0..count {
         dims[axis] = random.between(4, most);
-        (starts[axis], steps[axis]) = line(random, grid);
+        (starts[axis], steps[axis]) = start_and_step(random, grid);
     }
     let size: u64 = dims[..count].iter().product();
     let coefs = samples(random, kind, size as usize);
     Map { count: count as u64, dims, starts, steps, grid: None, linear, coefs, xs: Vec::new(), values: 0, parts: 0 }
-}
-
-// Start and step of an axis.
-fn line(random: &mut Random, grid: &str) -> (f64, f64) {
-    match grid {
-        "unit" => (random.between(0, 4) as f64 - 2.0, 1.0),
-        "ordinary" => (random.unit() * 10.0, random.unit().abs() * 3.0 + 0.01),
-        "fine" => (random.unit(), random.float(-40, -20).abs()),
-        "coarse" => (random.unit() * 100.0, random.float(20, 60).abs()),
-        "tiny" => (random.float(-1015, -1010), random.float(-1022, -1010).abs()),
-        "subnormal" => (random.pick(&[0.0, -0.0, 5e-324, -1e-320]), random.pick(&[5e-324, 1e-323, 1e-310, 2e-308])),
-        "huge" => (random.float(900, 1020), random.float(1000, 1022).abs()),
-        "lost digits" => (random.float(52, 56), random.pick(&[0.1, 0.7, 1.0, 3.0])),
-        "infinite step" => (random.unit(), random.pick(&[f64::INFINITY, f64::MAX, f64::INFINITY])),
-        _ => (random.pick(&[0.0, -0.0, 1.0, f64::MAX, f64::MIN]), random.float(-1022, 1023).abs()),
-    }
 }
 
 // The map is asked n queries.
@@ -100,53 +78,11 @@ pub fn ask(random: &mut Random, map: &mut Map, n: usize) {
     map.xs = vec![0.0; count * n];
     for axis in 0..count {
         for i in 0..n {
-            map.xs[axis * n + i] = match map.knots(axis) {
-                None => coordinate(random, map, axis),
-                Some(knots) => rectilinear_maps::coordinate(random, knots),
-            };
+            map.xs[axis * n + i] = map.axis(axis).coordinate(random);
         }
     }
     map.values = n;
     map.parts = count * n;
-}
-
-// A coordinate that the Rust answers, or refuses: one at which it overflows is drawn again.
-fn coordinate(random: &mut Random, map: &Map, axis: usize) -> f64 {
-    loop {
-        let x = drawn(random, map, axis);
-        let floor = map.floor(axis, x);
-        let refused = !(floor >= -TWO_63 && floor < TWO_63);
-        if floor != -TWO_63 && (!refused || random.below(12) == 0) {
-            return x;
-        }
-        if refused && !(map.starts[axis] - map.starts[axis] == 0.0) {
-            return x;
-        }
-        if refused && random.below(8) == 0 {
-            return map.starts[axis];
-        }
-    }
-}
-
-fn drawn(random: &mut Random, map: &Map, axis: usize) -> f64 {
-    let (start, step, last) = (map.starts[axis], map.steps[axis], map.dims[axis] as f64 - 1.0);
-    let part = random.unit().abs();
-    let at = |cells: f64| start + step * cells;
-    match random.below(16) {
-        0 | 1 => at(part),
-        2 | 3 => at(1.0 + part * (last - 2.0)),
-        4 => at(last - part),
-        5 => at(-3.0 * part),
-        6 => at(last + 3.0 * part),
-        7 | 8 => at(random.between(0, last as u64) as f64),
-        9 => at(random.between(0, last as u64) as f64).next_up(),
-        10 => at(random.between(0, last as u64) as f64).next_down(),
-        11 => at(random.between(0, last as u64 + 6) as f64 - 3.0),
-        12 => at(random.pick(&[0.0, 1.0, last - 1.0, last])),
-        13 => at(random.float(3, 30)),
-        14 => at(random.float(30, 62)),
-        _ => random.pick(&[0.0, -0.0, 1.0, -1.0, 5e-324, f64::MIN_POSITIVE, -1e300]),
-    }
 }
 
 // Quotients about the ends of the signed 64-bit range, NaN and infinite queries.

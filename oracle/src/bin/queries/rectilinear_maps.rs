@@ -2,6 +2,7 @@
 use crate::list::List;
 use crate::map::Map;
 use crate::maps::{ask, asked, coefficients, empty, mixed_lengths};
+use crate::shared::axis::between;
 use crate::shared::grids::{GRIDS, joined};
 use crate::shared::random::Random;
 use crate::shared::samples::{KINDS, samples};
@@ -70,43 +71,6 @@ pub fn bare(random: &mut Random, grid: &str, kind: &str, count: usize, linear: b
         values: 0,
         parts: 0,
     }
-}
-
-// A coordinate on an axis with these knots.
-pub fn coordinate(random: &mut Random, knots: &[f64]) -> f64 {
-    let last = knots.len() - 1;
-    let some = random.below(knots.len() as u64) as usize;
-    let inner = random.between(1, last as u64 - 2) as usize;
-    match random.below(16) {
-        0 | 1 => between(random, knots[0], knots[1]),
-        2 | 3 => between(random, knots[inner], knots[inner + 1]),
-        4 | 5 => between(random, knots[last - 1], knots[last]),
-        6 => knots[0] - (knots[1] - knots[0]) * random.unit().abs() * 3.0,
-        7 => knots[last] + (knots[last] - knots[last - 1]) * random.unit().abs() * 3.0,
-        8 | 9 => knots[some],
-        10 => knots[some].next_up(),
-        11 => knots[some].next_down(),
-        12 => knots[random.pick(&[0, 1, last - 1, last])],
-        13 => random.float(3, 60),
-        14 if random.below(3) == 0 => random.float(60, 1023),
-        14 => between(random, knots[inner], knots[inner + 1]),
-        _ => {
-            random.pick(&[0.0, -0.0, 1.0, -1.0, 5e-324, f64::MIN_POSITIVE, f64::INFINITY, f64::NEG_INFINITY, f64::NAN])
-        }
-    }
-}
-
-// A coordinate between two knots, of which one may be infinite.
-fn between(random: &mut Random, low: f64, high: f64) -> f64 {
-    let part = random.unit().abs();
-    if low.is_infinite() {
-        return high - random.float(-4, 20).abs();
-    }
-    if high.is_infinite() {
-        return low + random.float(-4, 20).abs();
-    }
-    let x = low + (high - low) * part;
-    if x.is_finite() { x } else { low * (1.0 - part) + high * part }
 }
 
 // Every knot of an axis, and the floats beside it.

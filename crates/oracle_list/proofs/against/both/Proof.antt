@@ -1,8 +1,8 @@
--- `replay_queries::compare::both` meets its contract. Assumes nothing.
+-- `oracle_list::against::both` meets its contract. Assumes nothing.
 use Rattle.oracle_list.proofs.WordLaws.{not-unreadable, not-differs}
 use borrow.Author.Needs.{needs}
-use Rattle.replay_queries.proofs.compare.both.Statement.{statement}
-use Rattle.replay_queries.proofs.compare.both.Tie as tie
+use Rattle.oracle_list.proofs.against.both.Statement.{statement}
+use Rattle.oracle_list.proofs.against.both.Tie as tie
 
 pub both-spec : {M : Type 1} → statement M
 both-spec =

@@ -1,6 +1,8 @@
 // One call of `coefficients`, and what the Rust answers to it.
-use crate::shared::grids::{axes, can_ask};
-use crate::shared::words::number;
+use super::grids::{axes, can_ask};
+use super::random::Random;
+use super::samples::samples;
+use super::words::{junk, number};
 use interpn::multibspline::{rectilinear, regular};
 
 #[derive(Clone)]
@@ -74,4 +76,26 @@ impl Call {
             }
         }
     }
+}
+
+// A call that is accepted, with enough scratch or some more.
+pub fn call(random: &mut Random, kind: &str, dims: &[u64], grid: Option<Vec<f64>>) -> Call {
+    let n: u64 = dims.iter().product();
+    let longest = *dims.iter().max().unwrap();
+    let more = random.pick(&[0, 0, 1, 2, 7]);
+    Call {
+        count: dims.len() as u64,
+        dims: padded(random, dims),
+        grid,
+        samples: samples(random, kind, n as usize),
+        coefs: n as usize,
+        scratch: (2 * longest + more) as usize,
+    }
+}
+
+// Four lengths. Those of no axis are zero, or anything at all: they are not to be looked at.
+pub fn padded(random: &mut Random, dims: &[u64]) -> [u64; 4] {
+    let mut out = if random.below(3) == 0 { junk(random) } else { [0; 4] };
+    out[..dims.len()].copy_from_slice(dims);
+    out
 }

@@ -1,5 +1,5 @@
 // Lengths about the most points that a map may have: 16,777,216.
-use crate::shared::random::Random;
+use super::random::Random;
 
 // More than the most, also past 64 bits.
 pub const LARGE: [&[u64]; 34] = [
