@@ -52,7 +52,7 @@ fn letter(d: u64) -> u8
 }
 
 // The number that digits to a base stand for.
-fn read_digits(text: &[u8], base: u64) -> Pattern
+pub fn read_digits(text: &[u8], base: u64) -> Pattern
     requires { ⌜ base ^ length (now text) ≤ 2 ^ 64 ⌝ }
     ensures { λ r. ⌜ r ≡ numberFrom base 0 (now (text .entry)) ⌝ }
 {
@@ -91,7 +91,7 @@ pub fn read_float(text: &[u8]) -> Value
 }
 
 // `count` digits of a number to a base, put into `out` from `at` on; `unit` is the weight of the highest.
-fn put_digits(n: u64, base: u64, unit: u64, count: usize, at: usize, out: &mut [u8])
+pub fn put_digits(n: u64, base: u64, unit: u64, count: usize, at: usize, out: &mut [u8])
     requires { ⌜ at + count ≤ length (now out) ⌝ }
     requires { ⌜ (0 < base) × (base ≤ 16) × (n < base ^ count) × (unit ≡ base ^ count / base) ⌝ }
     ensures { λ _. ⌜ now (out .exit) ≡ paste (now (out .entry)) at (digitsOf base count n) count ⌝ }

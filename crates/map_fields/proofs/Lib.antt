@@ -1,0 +1,4 @@
+pub mod Finding
+pub mod FloatRows
+pub mod Decimals
+pub mod FirstLines

@@ -1,0 +1,3 @@
+pub mod Axes
+pub mod Making
+pub mod Asking

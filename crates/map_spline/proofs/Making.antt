@@ -1,0 +1,123 @@
+-- The map of the first three lines is the one that the library builds. Assumes nothing.
+use mathlib.Core.Path.{_≡_, refl, sym, ap, ap₂, _∙_}
+use mathlib.Core.Bool.{Bool, true, false, cond, not}
+use mathlib.Core.List.{List}
+use Prim.Native.Nat.{ℕ, _+_, _*_, _≤_, _<_}
+use native.Mathlib.Omega.{arith}
+use lib.Dec.{eqb}
+use lib.ListN.{length, take, drop, getD, length-drop}
+use lib.Seq.{length-take-le, getD-take, take-take}
+use lib.Ieee.{Float, binary64, nan}
+use borrow.Author.Tests.{eq-eqb}
+use Rattle.shape.specs.Shape.{size, longest}
+use Rattle.shape.specs.Checks.{firstRefusal, shapeChecks, regularFitChecks}
+use Rattle.shape.specs.Fit.{Fitted}
+use Rattle.shape.specs.declared.answers.Answer.the-variants.{Accepted}
+use Rattle.shape.proofs.Accepted.{usable-accepted, axes-are, storage-is, scratch-is}
+use Rattle.multibspline.specs.Numbers.{f0}
+use Rattle.knots.specs.Joined.{total, allRise, knotsOf}
+use Rattle.evaluation.specs.Axes.{inUse, query}
+use Rattle.evaluation.specs.Built.{BuiltFrom}
+use Rattle.regular.specs.Fit.{regularFit}
+use Rattle.regular.proofs.FitChecks as RegularFit
+use Rattle.regular_map.specs.Map as Regular
+use Rattle.regular_map.specs.Map.{RegularMap}
+use Rattle.regular_map.specs.Checks.{anyStepBad, fromValuesAnswer}
+use Rattle.regular_map.proofs.Steps.{map-steps}
+use Rattle.regular_map.proofs.Builds.{values-passed}
+use Rattle.rectilinear.specs.Fit.{rectilinearFit, rectilinearFitChecks}
+use Rattle.rectilinear.proofs.FitChecks as RectilinearFit
+use Rattle.rectilinear_map.specs.Map as Rectilinear
+use Rattle.rectilinear_map.specs.Map.{RectilinearMap}
+use Rattle.map_spline.specs.Surface.{Surface, regularSurface, rectilinearSurface, regularOf, rectilinearOf, regularNumber, rectilinearNumber, Lent, MadeFrom}
+use Rattle.map_spline.proofs.Axes.{in-use, query-in-use, query-take}
+
+module _ (linear : Bool) (count : ℕ) (lens : List ℕ) (row samples coefs scratch : List Float) (wanted : ℕ) (four : length lens ≡ 4)
+    (l : Lent count lens wanted (length row) (length samples) (length coefs) (length scratch)) where
+  ok : firstRefusal (shapeChecks count lens) ≡ 0
+  ok = usable-accepted count lens four (l .shape)
+
+  axes : length (take count lens) ≡ count
+  axes = axes-are count lens four (l .shape)
+
+  lens-used : inUse 0 0 count lens ≡ inUse 0 0 count (take count lens)
+  lens-used = in-use 0 0 count lens (take count lens) (λ a h. sym (getD-take count lens a 0 h))
+
+  -- ---- regular
+
+  fits : _≡_ {A = ℕ} 0 (firstRefusal (regularFitChecks count lens (length samples) (length coefs) (length scratch)))
+  fits =
+      RegularFit.fit-passed count lens (length samples) (length coefs) (length scratch) ok (l .coefs-are ∙ sym (storage-is count lens ok)) (l .samples-are ∙ sym (storage-is count lens ok))
+      (rw (scratch-is count lens ok) (l .scratch-room))
+
+  module _ (half : wanted ≡ 2 * count) (starts steps : List Float) (es : starts ≡ query count (take count row) 1 0) (et : steps ≡ query count (drop count row) 1 0) where
+    few : count ≤ 4
+    few = l .shape .at-most-four
+
+    long : length row ≡ 2 * count
+    long = l .row-is ∙ half
+
+    steps-are : take count steps ≡ drop count row
+    steps-are = ap (take count) et ∙ query-take count (drop count row) few (rw length-drop (omega (arith, long)))
+
+    number : fromValuesAnswer count lens steps (length samples) (length coefs) (length scratch) ≡ regularNumber (take count lens) row
+    number =
+        values-passed count lens steps (length samples) (length coefs) (length scratch) four {x = Accepted} refl fits
+        ∙ map-steps count lens steps (length coefs) ok (l .coefs-are ∙ sym (storage-is count lens ok)) (ap anyStepBad (sym steps-are))
+        ∙ rw axes
+
+    made-is : Regular.made count lens starts steps linear ≡ Regular.made (length (take count lens)) (take count lens) (take (length (take count lens)) row) (drop (length (take count lens)) row) linear
+    unfolding Regular.made
+    made-is = rw (axes, lens-used, es, et, query-in-use count (take count row) few, query-in-use count (drop count row) few)
+
+    pub regular-made : (answer : ℕ) (handed : RegularMap) (coefs′ scratch′ left : List Float)
+        → BuiltFrom (fromValuesAnswer count lens steps (length samples) (length coefs) (length scratch)) (Regular.made count lens starts steps linear) Regular.blank answer handed
+        → Fitted (firstRefusal (regularFitChecks count lens (length samples) (length coefs) (length scratch))) (regularFit binary64 (take count lens) samples) left coefs scratch (firstRefusal (regularFitChecks count lens (length samples) (length coefs) (length scratch))) coefs′ scratch′
+        → MadeFrom (regularNumber (take count lens) row) (regularOf binary64 linear (take count lens) row samples) answer (regularSurface binary64 handed coefs′)
+    regular-made answer handed coefs′ scratch′ left b w = record {
+      answers = b .answers ∙ number;
+      map = λ z.
+          ap₂ (λ (m : RegularMap) (cs : List Float). regularSurface binary64 m cs)
+          (b .map ∙ ap (λ (t : Bool). cond t (Regular.made count lens starts steps linear) Regular.blank) (eq-eqb _ 0 (sym (b .answers) ∙ z)) ∙ made-is)
+          (w .coefficients ∙ ap (λ (t : Bool). cond t (regularFit binary64 (take count lens) samples) coefs) (eq-eqb _ 0 (sym fits)));
+    }
+
+  -- ---- rectilinear
+
+  module _ (joined : wanted ≡ total (take count lens)) where
+    number-of : firstRefusal (rectilinearFitChecks count lens row (length samples) (length coefs) (length scratch)) ≡ rectilinearNumber (take count lens) row
+    number-of = go (allRise row (take count lens) count) refl
+      where
+        go : (t : Bool) → t ≡ allRise row (take count lens) count → firstRefusal (rectilinearFitChecks count lens row (length samples) (length coefs) (length scratch)) ≡ rectilinearNumber (take count lens) row
+        go true e =
+            sym (RectilinearFit.fit-passed count lens row (length samples) (length coefs) (length scratch) ok (l .row-is ∙ joined) (l .coefs-are ∙ sym (storage-is count lens ok)) e axes refl (l .samples-are ∙ sym (storage-is count lens ok)) (rw (scratch-is count lens ok) (l .scratch-room)))
+            ∙ rw (axes, ← e)
+        go false e =
+            sym (RectilinearFit.fit-knots count lens row (length samples) (length coefs) (length scratch) ok (l .row-is ∙ joined) (l .coefs-are ∙ sym (storage-is count lens ok)) e axes refl)
+            ∙ rw (axes, ← e)
+
+    rectilinear-is : Rectilinear.made binary64 count lens row linear ≡ Rectilinear.made binary64 (length (take count lens)) (take count lens) row linear
+    unfolding Rectilinear.made Rectilinear.lowGhosts Rectilinear.highGhosts
+    rectilinear-is = rw (axes, lens-used, take-take count count lens (omega arith))
+
+    pub rectilinear-made : (answer : ℕ) (handed : RectilinearMap) (coefs′ scratch′ left : List Float)
+        → BuiltFrom (firstRefusal (rectilinearFitChecks count lens row (length samples) (length coefs) (length scratch))) (Rectilinear.made binary64 count lens row linear) Rectilinear.blank answer handed
+        → Fitted (firstRefusal (rectilinearFitChecks count lens row (length samples) (length coefs) (length scratch))) (rectilinearFit binary64 row (take count lens) samples) left coefs scratch answer coefs′ scratch′
+        → MadeFrom (rectilinearNumber (take count lens) row) (rectilinearOf binary64 linear (take count lens) row samples) answer (rectilinearSurface binary64 handed row coefs′)
+    rectilinear-made answer handed coefs′ scratch′ left b w = record {
+      answers = b .answers ∙ number-of;
+      map = λ z.
+          ap₂ (λ (m : RectilinearMap) (cs : List Float). rectilinearSurface binary64 m row cs)
+          (b .map ∙ ap (λ (t : Bool). cond t (Rectilinear.made binary64 count lens row linear) Rectilinear.blank) (eq-eqb _ 0 (sym (b .answers) ∙ z)) ∙ rectilinear-is)
+          (w .coefficients ∙ ap (λ (t : Bool). cond t (rectilinearFit binary64 row (take count lens) samples) coefs) (eq-eqb answer 0 z));
+    }
+
+-- ---- either grid
+
+pub lent-at : {count : ℕ} {lens : List ℕ} {wanted wanted′ row samples coefs scratch : ℕ} → wanted ≡ wanted′ → Lent count lens wanted row samples coefs scratch
+    → Lent count lens wanted′ row samples coefs scratch
+lent-at e l = record { shape = l .shape; row-is = l .row-is ∙ e; samples-are = l .samples-are; coefs-are = l .coefs-are; scratch-room = l .scratch-room }
+
+pub made-at : {expected expected′ : ℕ} {made made′ : Surface} {number number′ : ℕ} {s : Surface} → expected ≡ expected′ → made ≡ made′ → number′ ≡ number
+    → MadeFrom expected made number s → MadeFrom expected′ made′ number′ s
+made-at e m n h = record { answers = n ∙ h .answers ∙ e; map = λ z. h .map (sym n ∙ z) ∙ m }

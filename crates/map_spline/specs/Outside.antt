@@ -1,0 +1,45 @@
+-- Whether a query is outside: some axis in use has an Outside place for it. Assumes nothing.
+--     count, lens    the axis count and the lengths of the axes
+use mathlib.Core.Bool.{Bool, true, false, _||_}
+use mathlib.Core.List.{List}
+use Prim.Native.Nat.{ℕ, zero, suc}
+use lib.ListN.{getD}
+use lib.Ieee.{Float, Format, nan}
+use Rattle.multibspline.specs.declared.saturation.Saturation.{Saturation}
+use Rattle.multibspline.specs.declared.saturation.Saturation.the-variants.{None, InsideLow, OutsideLow, InsideHigh, OutsideHigh}
+use Rattle.regular_weights.specs.declared.place.Loc.{Loc}
+use Rattle.regular_weights.specs.declared.place.Loc.the-variants.{At, Unrepresentable}
+use Rattle.regular_weights.specs.Place.{getLoc}
+use Rattle.rectilinear_map.specs.Eval.{locOn}
+
+abbrev pub isOutside : Saturation → Bool
+isOutside None = false
+isOutside InsideLow = false
+isOutside OutsideLow = true
+isOutside InsideHigh = false
+isOutside OutsideHigh = true
+
+-- a cell that cannot be represented has no place
+abbrev pub isOutsideLoc : Loc → Bool
+isOutsideLoc (At sat origin) = isOutside sat
+isOutsideLoc Unrepresentable = false
+
+-- does one of the first n axes pass the test?
+unfoldable pub anyAxis : (ℕ → Bool) → ℕ → Bool
+anyAxis test zero = false
+anyAxis test (suc a) = anyAxis test a || test a
+
+-- axis a of a regular map, and of a rectilinear one
+unfoldable pub regularAxisOutside : Format → List ℕ → List Float → List Float → List Float → ℕ → Bool
+regularAxisOutside f lens starts steps x a =
+    isOutsideLoc (getLoc f (getD lens a 0) (getD starts a nan) (getD steps a nan) (getD x a nan))
+
+unfoldable pub rectilinearAxisOutside : ℕ → List ℕ → List Float → List Float → ℕ → Bool
+rectilinearAxisOutside count lens grid x a = isOutside (locOn count lens grid x a .sat)
+
+-- the query
+abbrev pub regularOutside : Format → ℕ → List ℕ → List Float → List Float → List Float → Bool
+regularOutside f count lens starts steps x = anyAxis (regularAxisOutside f lens starts steps x) count
+
+abbrev pub rectilinearOutside : ℕ → List ℕ → List Float → List Float → Bool
+rectilinearOutside count lens grid x = anyAxis (rectilinearAxisOutside count lens grid x) count

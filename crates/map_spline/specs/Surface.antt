@@ -1,0 +1,110 @@
+-- The map that the first three lines give, on either grid, and what it answers to a query. Assumes nothing.
+--     row        the floats of line 2
+--     samples    those of line 3
+use mathlib.Core.Path.{_≡_}
+use mathlib.Core.Bool.{Bool, cond, _&&_}
+use mathlib.Core.List.{List}
+use Prim.Native.Nat.{ℕ, _*_, _≤_, _<_}
+use lib.Dec.{eqb}
+use lib.ListN.{length, take, drop}
+use lib.Ieee.{Float, Format, binary64}
+use Rattle.shape.specs.Shape.{size, longest}
+use Rattle.shape.specs.Usable.{Usable}
+use Rattle.knots.specs.Joined.{total, allRise}
+use Rattle.regular.specs.Fit.{regularFit}
+use Rattle.rectilinear.specs.Fit.{rectilinearFit}
+use Rattle.evaluation.specs.Axes.{query}
+use Rattle.evaluation.specs.Spline.{Spline, oneAnswer, gradient}
+use Rattle.regular_map.specs.Map as Regular
+use Rattle.regular_map.specs.Map.{RegularMap}
+use Rattle.regular_map.specs.Checks.{anyStepBad, regular}
+use Rattle.rectilinear_map.specs.Map as Rectilinear
+use Rattle.rectilinear_map.specs.Map.{RectilinearMap}
+use Rattle.rectilinear_map.specs.Eval.{rectilinear}
+use Rattle.map_fields.specs.Head.{Head}
+use Rattle.map_spline.specs.Outside.{regularOutside, rectilinearOutside}
+use Rattle.map_spline.specs.declared.build.Map.{Map}
+
+-- a map as its queries see it
+pub record Surface : Type 0 where
+  pub spline : Spline
+  -- whether a query is outside
+  pub outside : List Float → Bool
+
+abbrev pub regularSurface : Format → RegularMap → List Float → Surface
+regularSurface f m coefs = record { spline = regular f m coefs; outside = regularOutside f (m .count) (m .lens) (m .starts) (m .steps) }
+
+abbrev pub rectilinearSurface : Format → RectilinearMap → List Float → List Float → Surface
+rectilinearSurface f m grid coefs = record { spline = rectilinear f m grid coefs; outside = rectilinearOutside (m .count) (m .lens) grid }
+
+-- ---- the map of the first three lines
+
+-- on a regular grid the row is the starts, then the steps; the map is refused with 5 where a step is not above zero
+abbrev pub regularOf : Format → Bool → List ℕ → List Float → List Float → Surface
+regularOf f linear dims row samples =
+    regularSurface f (Regular.made (length dims) dims (take (length dims) row) (drop (length dims) row) linear) (regularFit f dims samples)
+
+abbrev pub regularNumber : List ℕ → List Float → ℕ
+regularNumber dims row = cond (anyStepBad (drop (length dims) row)) 5 0
+
+-- on a rectilinear one it is the knots of all axes, axis after axis; 5 where those of an axis do not rise
+abbrev pub rectilinearOf : Format → Bool → List ℕ → List Float → List Float → Surface
+rectilinearOf f linear dims row samples = rectilinearSurface f (Rectilinear.made f (length dims) dims row linear) row (rectilinearFit f row dims samples)
+
+abbrev pub rectilinearNumber : List ℕ → List Float → ℕ
+rectilinearNumber dims row = cond (allRise row dims (length dims)) 0 5
+
+-- by what line 1 says: how many floats line 2 has, M's number, and the map
+unfoldable pub rowLength : Head → ℕ
+rowLength h = cond (h .regular) (2 * length (h .dims)) (total (h .dims))
+
+unfoldable pub mapNumber : Head → List Float → ℕ
+mapNumber h row = cond (h .regular) (regularNumber (h .dims) row) (rectilinearNumber (h .dims) row)
+
+unfoldable pub surface : Format → Head → List Float → List Float → Surface
+surface f h row samples = cond (h .regular) (regularOf f (h .linear) (h .dims) row samples) (rectilinearOf f (h .linear) (h .dims) row samples)
+
+-- ---- a query: as many coordinates as there are axes
+
+-- its number, its value, and its gradient by axis
+abbrev pub askedNumber : Surface → List Float → ℕ
+askedNumber s x = oneAnswer (s .spline) x
+
+abbrev pub askedValue : Surface → List Float → Float
+askedValue s x = s .spline .value (query (s .spline .axes) x 1 0)
+
+abbrev pub askedGradient : Surface → List Float → List Float
+askedGradient s x = take (s .spline .axes) (gradient (s .spline) (query (s .spline .axes) x 1 0))
+
+-- it counts as outside where it is answered and outside
+abbrev pub askedOutside : Surface → List Float → Bool
+askedOutside s x = eqb (askedNumber s x) 0 && s .outside x
+
+-- ---- what the functions promise
+
+-- the map that a record of the code stands for
+abbrev pub surfaceOf : Map → List Float → List Float → Surface
+surfaceOf m row coefs =
+    cond (m .regular) (regularSurface binary64 (Regular.mapOf (m .even)) coefs) (rectilinearSurface binary64 (Rectilinear.mapOf (m .uneven)) row coefs)
+
+-- the shape is accepted, and the lengths of the buffers are right
+pub record Lent (count : ℕ) (lens : List ℕ) (wanted row samples coefs scratch : ℕ) : Type 0 where
+  pub shape : Usable count lens
+  pub row-is : row ≡ wanted
+  pub samples-are : samples ≡ size (take count lens)
+  pub coefs-are : coefs ≡ size (take count lens)
+  pub scratch-room : 2 * longest (take count lens) ≤ scratch
+
+-- a map is built, or refused with a number
+pub record MadeFrom (expected : ℕ) (made : Surface) (number : ℕ) (s : Surface) : Type 0 where
+  pub answers : number ≡ expected
+  pub map : number ≡ 0 → s ≡ made
+
+-- a query is asked
+pub record Replied (s : Surface) (x : List Float) (number : ℕ) (value : Float) (outside : Bool) (parts : List Float) : Type 0 where
+  pub the-number : number ≡ askedNumber s x
+  pub the-value : number ≡ 0 → value ≡ askedValue s x
+  pub the-gradient : number ≡ 0 → take (s .spline .axes) parts ≡ askedGradient s x
+  pub is-outside : outside ≡ askedOutside s x
+  pub one-digit : number < 10
+  pub four-parts : length parts ≡ 4

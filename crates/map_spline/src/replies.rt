@@ -1,0 +1,153 @@
+// A query of the map.
+ghost use mathlib.Core.Path.{_≡_};
+ghost use mathlib.Core.Bool.{false};
+ghost use lib.Ieee.{binary64};
+ghost use Rattle.shape.specs.Refusal.{refusalNumber};
+ghost use Rattle.evaluation.specs.Axes.{zeros};
+ghost use Rattle.regular_map.specs.Map as Regular;
+ghost use Rattle.rectilinear_map.specs.Map as Rectilinear;
+ghost use Rattle.rectilinear_map.specs.Map.{ghosts};
+ghost use Rattle.map_spline.specs.Surface.{regularSurface, rectilinearSurface, surfaceOf, Replied};
+use crate::build::Map;
+use crate::outside::rectilinear_outside;
+use crate::outside::regular_outside;
+use evaluation::Valued;
+use rectilinear_map::MultiBsplineRectilinear;
+use rectilinear_weights::Ghost;
+use regular_map::MultiBsplineRegular;
+use shape::Refusal;
+
+// The number of a query; where it is 0, the value and the gradient; whether it counts as outside.
+pub struct Reply {
+    pub number: u64,
+    pub value: f64,
+    pub outside: bool,
+    pub parts: [f64; 4],
+}
+
+fn refused(refusal: Refusal) -> Reply
+    ensures { λ r. ⌜ (r .number ≡ refusalNumber refusal) × (r .outside ≡ false) × (r .parts ≡ zeros) ⌝ }
+{
+    Reply {
+        number: refusal.number(),
+        value: 0.0,
+        outside: false,
+        parts: [0.0, 0.0, 0.0, 0.0],
+    }
+}
+
+fn ask_regular(
+    count: usize,
+    dims: [usize; 4],
+    starts: [f64; 4],
+    steps: [f64; 4],
+    linear: bool,
+    coeffs: &[f64],
+    x: &[f64],
+) -> Reply
+    ensures { λ r. ⌜ Replied (regularSurface binary64 (record { count = count; lens = dims; starts = starts; steps = steps; linear = linear }) (now (coeffs .entry))) (now (x .entry)) (r .number) (r .value) (r .outside) (r .parts) ⌝ }
+{
+    let map = MultiBsplineRegular {
+        count: count,
+        dims: dims,
+        starts: starts,
+        steps: steps,
+        linearize_extrapolation: linear,
+    };
+    let valued = map.interp_one(coeffs, x);
+    match valued {
+        Valued::Value(value) => {
+            let gradient = map.interp_one_grad(coeffs, x);
+            let outside = regular_outside(count, dims, starts, steps, x);
+            let parts = gradient.parts;
+            Reply {
+                number: 0,
+                value: value,
+                outside: outside,
+                parts: parts,
+            }
+        }
+        Valued::Refused(refusal) => refused(refusal),
+    }
+}
+
+fn ask_rectilinear(
+    count: usize,
+    dims: [usize; 4],
+    low: [Ghost; 4],
+    high: [Ghost; 4],
+    linear: bool,
+    grid: &[f64],
+    coeffs: &[f64],
+    x: &[f64],
+) -> Reply
+    ensures { λ r. ⌜ Replied (rectilinearSurface binary64 (record { count = count; lens = dims; low = ghosts low; high = ghosts high; linear = linear }) (now (grid .entry)) (now (coeffs .entry))) (now (x .entry)) (r .number) (r .value) (r .outside) (r .parts) ⌝ }
+{
+    let map = MultiBsplineRectilinear {
+        count: count,
+        dims: dims,
+        low_ghost_coeffs: low,
+        high_ghost_coeffs: high,
+        linearize_extrapolation: linear,
+    };
+    let valued = map.interp_one(grid, coeffs, x);
+    match valued {
+        Valued::Value(value) => {
+            let gradient = map.interp_one_grad(grid, coeffs, x);
+            let outside = rectilinear_outside(count, dims, grid, x);
+            let parts = gradient.parts;
+            Reply {
+                number: 0,
+                value: value,
+                outside: outside,
+                parts: parts,
+            }
+        }
+        Valued::Refused(refusal) => refused(refusal),
+    }
+}
+
+fn ask_even(map: MultiBsplineRegular, coeffs: &[f64], x: &[f64]) -> Reply
+    ensures { λ r. ⌜ Replied (regularSurface binary64 (Regular.mapOf map) (now (coeffs .entry))) (now (x .entry)) (r .number) (r .value) (r .outside) (r .parts) ⌝ }
+{
+    let dims = map.dims;
+    let starts = map.starts;
+    let steps = map.steps;
+    ask_regular(
+        map.count,
+        dims,
+        starts,
+        steps,
+        map.linearize_extrapolation,
+        coeffs,
+        x,
+    )
+}
+
+fn ask_uneven(map: MultiBsplineRectilinear, grid: &[f64], coeffs: &[f64], x: &[f64]) -> Reply
+    ensures { λ r. ⌜ Replied (rectilinearSurface binary64 (Rectilinear.mapOf map) (now (grid .entry)) (now (coeffs .entry))) (now (x .entry)) (r .number) (r .value) (r .outside) (r .parts) ⌝ }
+{
+    let dims = map.dims;
+    let low = map.low_ghost_coeffs;
+    let high = map.high_ghost_coeffs;
+    ask_rectilinear(
+        map.count,
+        dims,
+        low,
+        high,
+        map.linearize_extrapolation,
+        grid,
+        coeffs,
+        x,
+    )
+}
+
+// A query of a map on either grid.
+pub fn ask(map: Map, grid: &[f64], coeffs: &[f64], x: &[f64]) -> Reply
+    ensures { λ r. ⌜ Replied (surfaceOf map (now (grid .entry)) (now (coeffs .entry))) (now (x .entry)) (r .number) (r .value) (r .outside) (r .parts) ⌝ }
+{
+    if map.regular {
+        return ask_even(map.even, coeffs, x);
+    }
+    ask_uneven(map.uneven, grid, coeffs, x)
+}

@@ -1,0 +1,242 @@
+-- The first three lines. Assumes nothing.
+use mathlib.Core.Path.{_≡_, refl, sym, ap, ap₂, subst, _∙_}
+use mathlib.Core.Logic.{_⊎_, inl, inr}
+use mathlib.Core.Bool.{Bool, true, false, cond, _||_}
+use mathlib.Core.List.{List, [], _∷_, _++_, append-nil}
+use mathlib.Core.Option.{Option, none, some}
+use Prim.Native.Nat.{ℕ, zero, suc, _+_, _*_, _-_, _≤_, _<_}
+use native.Mathlib.Nat.{pos-of-ne-zero}
+use native.Mathlib.Omega.{arith}
+use lib.Dec.{eqb, ltb, lit<}
+use lib.ListN.{length, take, drop, getD}
+use lib.Seq.{sets, sets-eq, length-take-le, take-length}
+use lib.Ieee.{Float, binary64}
+use borrow.Author.Tests.{eq-eqb, ne-eqb, eqb-false, lt-ltb, le-ltb, ltb-true, ltb-false}
+use Rattle.shape.specs.Shape.{size, longest}
+use Rattle.shape.specs.Checks.{firstRefusal, anyShort, shapeChecks, mostPoints}
+use Rattle.shape.specs.Sizes.{coeffStorageLen}
+use Rattle.shape.specs.Usable.{Usable}
+use Rattle.shape.proofs.Accepted.{usable, usable-accepted, axes-are, storage-is, longest-le, usable-not-empty, points-are}
+use Rattle.knots.specs.Joined.{total}
+use Rattle.knots.proofs.Totals.{total-le-size}
+use Rattle.regular_map.specs.Map as Regular
+use Rattle.rectilinear_map.specs.Map as Rectilinear
+use Rattle.map_fields.specs.Fields.{lines, fields, before, rowIn, rest, given, RowRead}
+use Rattle.map_fields.specs.Head.{Head, headIn, lengthsIn, HeadRead}
+use Rattle.map_fields.proofs.Finding.{line-at}
+use Rattle.map_print.specs.Print.{Wrote, unreadableLine, mapLine}
+use Rattle.map_spline.specs.Surface.{Surface, regularOf, rectilinearOf, regularNumber, rectilinearNumber, rowLength, mapNumber, surface, Lent, MadeFrom}
+use Rattle.map_work.specs.Program.{queries, fitted, third, second, limitChecks, shapeNumber, shaped, first, program}
+use Rattle.map_work.specs.Steps.{Ready, Buffers, fourOf, fromShape}
+
+-- ---- line 2 and line 3
+
+pub ready-next : {n at next axes out : ℕ} → Ready n at axes out 4 → at ≤ next → next ≤ n + 1 → Ready n next axes out 4
+ready-next h a e = record { short = h .short; on = e; some-axis = h .some-axis; at-most-four = h .at-most-four; room = omega (arith, h .room) }
+
+-- the number of a map has one digit
+pub number-digit : (regular a b : Bool) → cond regular (cond a 5 0) (cond b 0 5) < 10
+number-digit true true b = lit< tt
+number-digit true false b = lit< tt
+number-digit false a true = lit< tt
+number-digit false a false = lit< tt
+
+-- the axes of the map are those of line 1
+pub axes-of : (regular linear : Bool) (dims : List ℕ) (row samples : List Float) → cond regular (regularOf binary64 linear dims row samples) (rectilinearOf binary64 linear dims row samples) .spline .axes ≡ length dims
+unfolding Regular.made Rectilinear.made
+axes-of true linear dims row samples = refl
+axes-of false linear dims row samples = refl
+
+module _ (input : List ℕ) (at n : ℕ) (ok : Bool) (next : ℕ) (got : List Float) (h : RowRead input at n ok next got) where
+  was-read : ok ≡ true → rowIn n (lines (drop at input)) ≡ some got
+  was-read k = h .row ∙ ap (λ (b : Bool). given b got) k
+
+  unread : ok ≡ false → rowIn n (lines (drop at input)) ≡ none
+  unread k = h .row ∙ ap (λ (b : Bool). given b got) k
+
+  module _ (regular linear : Bool) (dims : List ℕ) where
+    abbrev head : Head
+    head = record { regular = regular; linear = linear; dims = dims }
+
+    pub row-unread : (out new : List ℕ) (r : ℕ) → n ≡ cond regular (2 * length dims) (total dims) → ok ≡ false → Wrote out 0 (unreadableLine 2) new r → take r new ≡ second head (lines (drop at input))
+    unfolding second rowLength
+    row-unread out new r e k w = rw (← e, unread k) (w .text)
+
+    pub row-read : n ≡ cond regular (2 * length dims) (total dims) → ok ≡ true → third head got (lines (drop next input)) ≡ second head (lines (drop at input))
+    unfolding second rowLength
+    row-read e k = rw (← e, was-read k, h .after)
+
+    module _ (row : List Float) (e : n ≡ size dims) where
+      pub samples-unread : (out new : List ℕ) (r : ℕ) → ok ≡ false → Wrote out 0 (unreadableLine 3) new r → take r new ≡ third head row (lines (drop at input))
+      unfolding third
+      samples-unread out new r k w = rw (← e, unread k) (w .text)
+
+      module _ (number : ℕ) (s : Surface)
+          (f : MadeFrom (cond regular (regularNumber dims row) (rectilinearNumber dims row)) (cond regular (regularOf binary64 linear dims row got) (rectilinearOf binary64 linear dims row got)) number s)
+          (k : ok ≡ true) (out mid : List ℕ) (o : ℕ) (w : Wrote out 0 (mapLine number) mid o) where
+        pub map-refused : (number ≡ 0 → ⊥) → take o mid ≡ third head row (lines (drop at input))
+        unfolding third fitted mapNumber
+        map-refused z = rw (← e, was-read k, ← f .answers, ne-eqb number 0 z, append-nil (mapLine number)) (w .text)
+
+        pub map-run : number ≡ 0 → (all : List ℕ) → all ≡ take o mid ++ queries s 0 0 (lines (drop next input)) → all ≡ third head row (lines (drop at input))
+        unfolding third fitted mapNumber surface
+        map-run z all t =
+            rw (← e, was-read k, ← f .answers, eq-eqb number 0 z, h .after, ← f .map z) (t ∙ ap (λ (b : List ℕ). b ++ queries s 0 0 (lines (drop next input))) (w .text))
+
+-- ---- the shape
+
+module _ (count : ℕ) (lens : List ℕ) (n : ℕ) (e : n ≡ firstRefusal (shapeChecks count lens)) where
+  -- the library's refusal of a shape is the program's
+  pub limit-refused : (n ≡ 0 → ⊥) → (n ≡ firstRefusal (limitChecks count (take count lens))) × (n < 10)
+  unfolding firstRefusal
+  limit-refused u = go (eqb count 0 || ltb 4 count) (anyShort (take count lens)) (ltb mostPoints (size (take count lens))) (ltb 512 (size (take count lens))) refl refl e
+    where
+      go : (a b c d : Bool) → ltb mostPoints (size (take count lens)) ≡ c → ltb 512 (size (take count lens)) ≡ d → n ≡ cond a 1 (cond b 2 (cond c 3 0))
+          → (n ≡ cond a 1 (cond b 2 (cond d 3 0))) × (n < 10)
+      go true b c d x y q = (q, rw q (lit< tt))
+      go false true c d x y q = (q, rw q (lit< tt))
+      go false false true true x y q = (q, rw q (lit< tt))
+      go false false true false x y q = absurd (let z : ⊥ = omega (arith, ltb-true mostPoints (size (take count lens)) x, ltb-false 512 (size (take count lens)) y) in z)
+      go false false false d x y q = absurd (u q)
+
+  module _ (z : n ≡ 0) (cells : ℕ) (k : cells ≡ coeffStorageLen count lens) where
+    ok : firstRefusal (shapeChecks count lens) ≡ 0
+    ok = sym e ∙ z
+
+    many : cells ≡ size (take count lens)
+    many = k ∙ storage-is count lens ok
+
+    passed : (t : Bool) → ltb 512 (size (take count lens)) ≡ t → firstRefusal (limitChecks count (take count lens)) ≡ cond t 3 0
+    unfolding firstRefusal
+    passed t d = go (eqb count 0 || ltb 4 count) (anyShort (take count lens)) (ltb mostPoints (size (take count lens))) ok
+      where
+        go : (a b c : Bool) → _≡_ {A = ℕ} (cond a 1 (cond b 2 (cond c 3 0))) 0 → _≡_ {A = ℕ} (cond a 1 (cond b 2 (cond (ltb 512 (size (take count lens))) 3 0))) (cond t 3 0)
+        go true b c q = absurd (let y : ⊥ = omega (arith, q) in y)
+        go false true c q = absurd (let y : ⊥ = omega (arith, q) in y)
+        go false false c q = rw d
+
+    pub limit-over : 512 < cells → (_≡_ {A = ℕ} 3 (firstRefusal (limitChecks count (take count lens)))) × (_<_ 3 10)
+    limit-over l = (sym (passed true (lt-ltb 512 (size (take count lens)) (rw (← many) l))), lit< tt)
+
+    pub limit-passed : cells ≤ 512 → (_≡_ {A = ℕ} 0 (firstRefusal (limitChecks count (take count lens)))) × (_<_ 0 10)
+    limit-passed l = (sym (passed false (le-ltb 512 (size (take count lens)) (rw (← many) l))), lit< tt)
+
+-- a shape that is not refused
+pub limit-usable : (count : ℕ) (lens : List ℕ) → length lens ≡ 4 → firstRefusal (limitChecks count (take count lens)) ≡ 0 → Usable count lens × (size (take count lens) ≤ 512)
+unfolding firstRefusal
+limit-usable count lens four e =
+    go (eqb count 0 || ltb 4 count) (anyShort (take count lens)) (ltb 512 (size (take count lens))) refl refl refl e
+  where
+    go : (a b d : Bool) → eqb count 0 || ltb 4 count ≡ a → anyShort (take count lens) ≡ b → ltb 512 (size (take count lens)) ≡ d → _≡_ {A = ℕ} (cond a 1 (cond b 2 (cond d 3 0))) 0
+        → Usable count lens × (size (take count lens) ≤ 512)
+    go true b d x y w q = absurd (let z : ⊥ = omega (arith, q) in z)
+    go false true d x y w q = absurd (let z : ⊥ = omega (arith, q) in z)
+    go false false true x y w q = absurd (let z : ⊥ = omega (arith, q) in z)
+    go false false false x y w q =
+        let small : size (take count lens) ≤ 512 = ltb-false 512 (size (take count lens)) w in
+        (usable count lens four (rw (x, y, le-ltb mostPoints (size (take count lens)) (omega arith))), small)
+
+-- the rows and scratch that such a shape needs
+module _ (count : ℕ) (lens : List ℕ) (four : length lens ≡ 4) (u : Usable count lens) (small : size (take count lens) ≤ 512) where
+  pub row-small : (regular : Bool) → cond regular (2 * count) (total (take count lens)) ≤ 512
+  row-small true = omega (arith, u .at-most-four)
+  row-small false =
+      let t = total-le-size (take count lens) (λ a h. let l : a < count = rw (axes-are count lens four u) at h in rw (points-are count lens four u a l) (u .four-points a l)) in
+      omega arith
+
+  pub scratch-small : 2 * longest (take count lens) ≤ 1024
+  scratch-small = omega (arith, longest-le (take count lens) (usable-not-empty count lens four u))
+
+-- ---- line 1
+
+-- the lengths that were kept
+pub four-kept : (count : ℕ) (old ls new : List ℕ) → length old ≡ 5 → length ls ≤ 4 → new ≡ sets old 0 (count ∷ ls) → take (length ls) (fourOf new) ≡ ls
+unfolding fourOf
+four-kept count old ls new five few e = go ls few (e ∙ sets-eq (count ∷ ls) old 0 (omega arith))
+  where
+    go : (qs : List ℕ) → length qs ≤ 4 → new ≡ (count ∷ qs) ++ drop (0 + length (count ∷ qs)) old
+        → take (length qs) (getD new 1 0 ∷ getD new 2 0 ∷ getD new 3 0 ∷ getD new 4 0 ∷ []) ≡ qs
+    go [] l q = refl
+    go (a ∷ []) l q = rw q
+    go (a ∷ b ∷ []) l q = rw q
+    go (a ∷ b ∷ c ∷ []) l q = rw q
+    go (a ∷ b ∷ c ∷ d ∷ []) l q = rw q
+    go (a ∷ b ∷ c ∷ d ∷ f ∷ qs) l q = absurd (let z : ⊥ = omega arith in z)
+
+-- a shape of more than four axes is refused, whatever lengths were kept
+shape-is : (regular linear : Bool) (count : ℕ) (four ds : List ℕ) (ls : List (List ℕ)) → count ≡ length ds → (count ≤ 4 → take count four ≡ ds)
+    → fromShape (record { regular = regular; linear = linear; dims = take count four }) count ls ≡ shaped (record { regular = regular; linear = linear; dims = ds }) ls
+unfolding shaped shapeNumber firstRefusal
+shape-is regular linear count four ds ls e f = go (ltb 4 count) refl
+  where
+    go : (t : Bool) → ltb 4 count ≡ t → fromShape (record { regular = regular; linear = linear; dims = take count four }) count ls ≡ shaped (record { regular = regular; linear = linear; dims = ds }) ls
+    go true q =
+        let l = ltb-true 4 count q in
+        let no : eqb count 0 ≡ false = ne-eqb count 0 (λ z. omega arith) in
+        rw (← e, q, no)
+    go false q = rw (f (ltb-false 4 count q), ← e)
+
+pub too-long : (more : Bool) (input out new : List ℕ) (r : ℕ) → more ≡ true → Wrote out 0 (unreadableLine 0) new r → take r new ≡ program more input
+unfolding program
+too-long more input out new r l w = rw l (w .text)
+
+module _ (more : Bool) (l : more ≡ false) where
+  pub no-line : (input out new : List ℕ) (r : ℕ) → length input ≡ 0 → Wrote out 0 (unreadableLine 1) new r → take r new ≡ program more input
+  unfolding program first lines
+  no-line [] out new r z w = rw l (w .text)
+  no-line (b ∷ bs) out new r z w = absurd (let z : ⊥ = omega arith in z)
+
+  module _ (input : List ℕ) (n : length input ≡ 0 → ⊥) (e : ℕ) (g : e ≡ 0 + length (before 10 (drop 0 input)))
+      (old : List ℕ) (readable regular linear : Bool) (count : ℕ) (new : List ℕ) (h : HeadRead (fields (take e input)) old readable regular linear count new) where
+    lines-are : lines input ≡ take e input ∷ lines (drop (e + 1) input)
+    lines-are = line-at input 0 e (pos-of-ne-zero n) g ∙ ap (λ (k : ℕ). take k input ∷ lines (drop (e + 1) input)) (let q : e - 0 ≡ e = omega arith in q)
+
+    pub bad-head : (out last : List ℕ) (r : ℕ) → readable ≡ false → Wrote out 0 (unreadableLine 1) last r → take r last ≡ program more input
+    unfolding program first
+    bad-head out last r b w = rw (l, lines-are, h .head, b) (w .text)
+
+    pub good-head : (all : List ℕ) → readable ≡ true → length old ≡ 5
+        → all ≡ fromShape (record { regular = regular; linear = linear; dims = take count (fourOf new) }) count (lines (drop (e + 1) input)) → all ≡ program more input
+    unfolding program first
+    good-head all b five t =
+        let ls = lengthsIn (fields (take e input)) in
+        let c = h .axes b in
+        let kept : count ≤ 4 → take count (fourOf new) ≡ ls = λ few. ap (λ (k : ℕ). take k (fourOf new)) c ∙ four-kept count old ls new five (omega (arith, c)) (h .kept b) in
+        rw (l, lines-are, h .head, b) (t ∙ shape-is regular linear count (fourOf new) ls (lines (drop (e + 1) input)) c kept)
+
+-- ---- lengths that are kept from call to call
+
+module _ (regular : Bool) (count : ℕ) (lens : List ℕ) (n samples coefs scratch : ℕ) (four : length lens ≡ 4)
+    (l : Lent count lens (cond regular (2 * count) (total (take count lens))) n samples coefs scratch) where
+  pub axes-lent : length (take count lens) ≡ count
+  axes-lent = axes-are count lens four (l .shape)
+
+  pub row-wanted : n ≡ cond regular (2 * length (take count lens)) (total (take count lens))
+  row-wanted = l .row-is ∙ ap (λ (k : ℕ). cond regular (2 * k) (total (take count lens))) (sym axes-lent)
+
+pub lent-same : {count : ℕ} {lens : List ℕ} {wanted row row′ samples samples′ coefs scratch : ℕ} → row′ ≡ row → samples′ ≡ samples → Lent count lens wanted row samples coefs scratch
+    → Lent count lens wanted row′ samples′ coefs scratch
+lent-same e f l = record { shape = l .shape; row-is = e ∙ l .row-is; samples-are = f ∙ l .samples-are; coefs-are = l .coefs-are; scratch-room = l .scratch-room }
+
+length-mapLine : (n : ℕ) → length (mapLine n) ≡ 4
+unfolding mapLine
+length-mapLine n = refl
+
+pub ready-run : {n at next axes out out′ : ℕ} {old new : List ℕ} {o : ℕ} (number : ℕ) → Ready n at axes out 4 → at ≤ next → next ≤ n + 1 → out′ ≡ out → Wrote old 0 (mapLine number) new o
+    → Ready n next axes out′ o
+ready-run number h a e s w = record {
+  short = h .short;
+  on = e;
+  some-axis = h .some-axis;
+  at-most-four = h .at-most-four;
+  room = omega (arith, h .room, w .place, length-mapLine number, s);
+}
+
+-- ---- the shape, as the code finds it
+
+module _ (h : Head) (count : ℕ) (ls : List (List ℕ)) (n : ℕ) (e : n ≡ firstRefusal (limitChecks count (h .dims))) where
+  pub shape-read : (all : List ℕ) → n ≡ 0 → all ≡ second h ls → all ≡ fromShape h count ls
+  shape-read all z t = rw (← e, eq-eqb n 0 z) t
+
+  pub shape-refused : (out new : List ℕ) (r : ℕ) → (n ≡ 0 → ⊥) → Wrote out 0 (mapLine n) new r → take r new ≡ fromShape h count ls
+  shape-refused out new r z w = rw (← e, ne-eqb n 0 z) (w .text)
