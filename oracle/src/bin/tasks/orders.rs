@@ -1,5 +1,5 @@
-// Complete orders on a map of 4 by 4 points: for each of the 576 orders in which its eight lines can be solved, a list of calls
-// after which all are.
+// Complete orders on a map of 4 by 4 points: for each of the 576 orders in which its eight lines can be solved, two lists of
+// calls after which all are, no two lists alike.
 use crate::book::{Book, Task};
 use crate::fit::Fit;
 use crate::list::List;
@@ -18,15 +18,17 @@ pub fn add(list: &mut List, rectilinear: bool) {
     let (mut orders, mut solved) = (BTreeSet::new(), BTreeSet::new());
     for first in permutations() {
         for second in permutations() {
-            let lines = order(&mut random, first, second);
-            assert_eq!(accepted(&lines), [first.map(|line| (0, line)), second.map(|line| (1, line))].concat());
-            fit.tasks = lines.iter().map(|&line| task(line)).collect();
-            assert!(list.ran("complete order of 4 by 4 points", &fit), "not complete");
-            solved.insert(accepted(&lines));
-            orders.insert(lines);
+            for _ in 0..2 {
+                let lines = another(&mut random, &orders, first, second);
+                assert_eq!(accepted(&lines), [first.map(|line| (0, line)), second.map(|line| (1, line))].concat());
+                fit.tasks = lines.iter().map(|&line| task(line)).collect();
+                assert!(list.ran("complete order of 4 by 4 points", &fit), "not complete");
+                solved.insert(accepted(&lines));
+                orders.insert(lines);
+            }
         }
     }
-    assert_eq!((orders.len(), solved.len()), (576, 576));
+    assert_eq!((orders.len(), solved.len()), (1152, 576));
 }
 
 fn task((axis, line): (u64, u64)) -> Task {
@@ -36,6 +38,21 @@ fn task((axis, line): (u64, u64)) -> Task {
 fn permutations() -> Vec<[u64; 4]> {
     let all = (0..256).map(|n| [n / 64, n / 16 % 4, n / 4 % 4, n % 4]);
     all.filter(|p| (0..4).all(|line| p.contains(&line))).collect()
+}
+
+// A list that is not there yet.
+fn another(
+    random: &mut Random,
+    orders: &BTreeSet<Vec<(u64, u64)>>,
+    first: [u64; 4],
+    second: [u64; 4],
+) -> Vec<(u64, u64)> {
+    loop {
+        let lines = order(random, first, second);
+        if !orders.contains(&lines) {
+            return lines;
+        }
+    }
 }
 
 // A permutation of the eight lines, and then the ones left over, such that the lines of axis 0 and of axis 1 are solved in these
