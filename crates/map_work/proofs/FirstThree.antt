@@ -13,7 +13,7 @@ use lib.Seq.{sets, sets-eq, length-take-le, take-length}
 use lib.Ieee.{Float, binary64}
 use borrow.Author.Tests.{eq-eqb, ne-eqb, eqb-false, lt-ltb, le-ltb, ltb-true, ltb-false}
 use Rattle.shape.specs.Shape.{size, longest}
-use Rattle.shape.specs.Checks.{firstRefusal, anyShort, shapeChecks, mostPoints}
+use Rattle.shape.specs.Checks.{firstRefusal, anyShort, limitChecks, shapeChecks, mostPoints}
 use Rattle.shape.specs.Sizes.{coeffStorageLen}
 use Rattle.shape.specs.Usable.{Usable}
 use Rattle.shape.proofs.Accepted.{usable, usable-accepted, axes-are, storage-is, longest-le, usable-not-empty, points-are}
@@ -26,7 +26,7 @@ use Rattle.map_fields.specs.Head.{Head, headIn, lengthsIn, HeadRead}
 use Rattle.map_fields.proofs.Finding.{line-at}
 use Rattle.map_print.specs.Print.{Wrote, unreadableLine, mapLine}
 use Rattle.map_spline.specs.Surface.{Surface, regularOf, rectilinearOf, regularNumber, rectilinearNumber, rowLength, mapNumber, surface, Lent, MadeFrom}
-use Rattle.map_work.specs.Program.{queries, fitted, third, second, limitChecks, shapeNumber, shaped, first, program}
+use Rattle.map_work.specs.Program.{queries, fitted, third, second, shapeNumber, shaped, first, program}
 use Rattle.map_work.specs.Steps.{Ready, Buffers, fourOf, fromShape}
 
 -- ---- line 2 and line 3
@@ -87,7 +87,7 @@ module _ (input : List ℕ) (at n : ℕ) (ok : Bool) (next : ℕ) (got : List Fl
 
 module _ (count : ℕ) (lens : List ℕ) (n : ℕ) (e : n ≡ firstRefusal (shapeChecks count lens)) where
   -- the library's refusal of a shape is the program's
-  pub limit-refused : (n ≡ 0 → ⊥) → (n ≡ firstRefusal (limitChecks count (take count lens))) × (n < 10)
+  pub limit-refused : (n ≡ 0 → ⊥) → (n ≡ firstRefusal (limitChecks 512 count (take count lens))) × (n < 10)
   unfolding firstRefusal
   limit-refused u = go (eqb count 0 || ltb 4 count) (anyShort (take count lens)) (ltb mostPoints (size (take count lens))) (ltb 512 (size (take count lens))) refl refl e
     where
@@ -106,7 +106,7 @@ module _ (count : ℕ) (lens : List ℕ) (n : ℕ) (e : n ≡ firstRefusal (shap
     many : cells ≡ size (take count lens)
     many = k ∙ storage-is count lens ok
 
-    passed : (t : Bool) → ltb 512 (size (take count lens)) ≡ t → firstRefusal (limitChecks count (take count lens)) ≡ cond t 3 0
+    passed : (t : Bool) → ltb 512 (size (take count lens)) ≡ t → firstRefusal (limitChecks 512 count (take count lens)) ≡ cond t 3 0
     unfolding firstRefusal
     passed t d = go (eqb count 0 || ltb 4 count) (anyShort (take count lens)) (ltb mostPoints (size (take count lens))) ok
       where
@@ -115,14 +115,14 @@ module _ (count : ℕ) (lens : List ℕ) (n : ℕ) (e : n ≡ firstRefusal (shap
         go false true c q = absurd (let y : ⊥ = omega (arith, q) in y)
         go false false c q = rw d
 
-    pub limit-over : 512 < cells → (_≡_ {A = ℕ} 3 (firstRefusal (limitChecks count (take count lens)))) × (_<_ 3 10)
+    pub limit-over : 512 < cells → (_≡_ {A = ℕ} 3 (firstRefusal (limitChecks 512 count (take count lens)))) × (_<_ 3 10)
     limit-over l = (sym (passed true (lt-ltb 512 (size (take count lens)) (rw (← many) l))), lit< tt)
 
-    pub limit-passed : cells ≤ 512 → (_≡_ {A = ℕ} 0 (firstRefusal (limitChecks count (take count lens)))) × (_<_ 0 10)
+    pub limit-passed : cells ≤ 512 → (_≡_ {A = ℕ} 0 (firstRefusal (limitChecks 512 count (take count lens)))) × (_<_ 0 10)
     limit-passed l = (sym (passed false (le-ltb 512 (size (take count lens)) (rw (← many) l))), lit< tt)
 
 -- a shape that is not refused
-pub limit-usable : (count : ℕ) (lens : List ℕ) → length lens ≡ 4 → firstRefusal (limitChecks count (take count lens)) ≡ 0 → Usable count lens × (size (take count lens) ≤ 512)
+pub limit-usable : (count : ℕ) (lens : List ℕ) → length lens ≡ 4 → firstRefusal (limitChecks 512 count (take count lens)) ≡ 0 → Usable count lens × (size (take count lens) ≤ 512)
 unfolding firstRefusal
 limit-usable count lens four e =
     go (eqb count 0 || ltb 4 count) (anyShort (take count lens)) (ltb 512 (size (take count lens))) refl refl refl e
@@ -234,7 +234,7 @@ ready-run number h a e s w = record {
 
 -- ---- the shape, as the code finds it
 
-module _ (h : Head) (count : ℕ) (ls : List (List ℕ)) (n : ℕ) (e : n ≡ firstRefusal (limitChecks count (h .dims))) where
+module _ (h : Head) (count : ℕ) (ls : List (List ℕ)) (n : ℕ) (e : n ≡ firstRefusal (limitChecks 512 count (h .dims))) where
   pub shape-read : (all : List ℕ) → n ≡ 0 → all ≡ second h ls → all ≡ fromShape h count ls
   shape-read all z t = rw (← e, eq-eqb n 0 z) t
 

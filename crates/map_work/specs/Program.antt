@@ -1,13 +1,13 @@
 -- The map program: what it prints, of what it reads; bytes in, bytes out. Assumes nothing.
-use mathlib.Core.Bool.{Bool, true, false, cond, _||_}
+use mathlib.Core.Bool.{Bool, true, false, cond}
 use mathlib.Core.List.{List, [], _∷_, _++_}
 use mathlib.Core.Option.{Option, none, some}
 use Prim.Native.Nat.{ℕ, _+_}
-use lib.Dec.{eqb, ltb}
+use lib.Dec.{eqb}
 use lib.ListN.{length}
 use lib.Ieee.{Float, binary64}
 use Rattle.shape.specs.Shape.{size}
-use Rattle.shape.specs.Checks.{Check, refuse, firstRefusal, anyShort}
+use Rattle.shape.specs.Checks.{firstRefusal, limitChecks}
 use Rattle.map_fields.specs.Fields.{lines, fields, floatsIn, rowIn, rest}
 use Rattle.map_fields.specs.Head.{Head, headIn}
 use Rattle.map_print.specs.Print.{unreadableLine, mapLine, answerLine, totalLine}
@@ -48,17 +48,9 @@ third h row ls = whenRead (rowIn (size (h .dims)) ls) (unreadableLine 3) (λ sam
 unfoldable pub second : Head → List (List ℕ) → List ℕ
 second h ls = whenRead (rowIn (rowLength h) ls) (unreadableLine 2) (λ row. third h row (rest ls))
 
--- the refusals of a shape, before line 2 is read: 1, no axes or more than four; 2, an axis of fewer than four points; 3, more
--- than 512 points
-abbrev pub limitChecks : ℕ → List ℕ → List Check
-limitChecks count dims =
-    refuse 1 (eqb count 0 || ltb 4 count)
-    ∷ refuse 2 (anyShort dims)
-    ∷ refuse 3 (ltb 512 (size dims))
-    ∷ []
-
+-- the refusals of a shape, before line 2 is read, with the program's own limit
 unfoldable pub shapeNumber : List ℕ → ℕ
-shapeNumber dims = firstRefusal (limitChecks (length dims) dims)
+shapeNumber dims = firstRefusal (limitChecks 512 (length dims) dims)
 
 -- ---- line 1, which is read whole before it is refused
 

@@ -6,12 +6,12 @@ use lib.Dec.{eqb}
 use Prim.Native.Nat.{ℕ, _+_, _*_, _-_, _≤_}
 use lib.ListN.{length, take, drop, getD}
 use lib.Ieee.{Float}
-use Rattle.shape.specs.Checks.{firstRefusal}
+use Rattle.shape.specs.Checks.{firstRefusal, limitChecks}
 use Rattle.map_fields.specs.Fields.{lines, RowRead}
 use Rattle.map_print.specs.Print.{Wrote, unreadableLine, mapLine, totalLine}
 use Rattle.map_spline.specs.Surface.{Surface, askedOutside}
 use Rattle.map_fields.specs.Head.{Head}
-use Rattle.map_work.specs.Program.{answer, queries, second, limitChecks}
+use Rattle.map_work.specs.Program.{answer, queries, second}
 
 -- of n bytes read up to `at`, with o bytes printed, the rest can be printed: a readable query line of k floats has at least
 -- 17 k bytes, and its answer at most 21 + 17 k, so three bytes out for one in are enough, and 128 for the turn in hand
@@ -59,4 +59,4 @@ fourOf numbers = getD numbers 1 0 ∷ getD numbers 2 0 ∷ getD numbers 3 0 ∷ 
 -- what is printed from line 2 on, for a shape of four lengths
 abbrev pub fromShape : Head → ℕ → List (List ℕ) → List ℕ
 fromShape h count ls =
-    cond (eqb (firstRefusal (limitChecks count (h .dims))) 0) (second h ls) (mapLine (firstRefusal (limitChecks count (h .dims))))
+    cond (eqb (firstRefusal (limitChecks 512 count (h .dims))) 0) (second h ls) (mapLine (firstRefusal (limitChecks 512 count (h .dims))))

@@ -4,12 +4,12 @@ ghost use mathlib.Core.Bool.{cond};
 ghost use Prim.Native.Nat.{_<_, _≤_, _+_, _*_};
 ghost use lib.ListN.{length, take, drop};
 ghost use Rattle.shape.specs.Shape.{size};
-ghost use Rattle.shape.specs.Checks.{firstRefusal};
+ghost use Rattle.shape.specs.Checks.{firstRefusal, limitChecks};
 ghost use Rattle.shape.specs.Usable.{Usable};
 ghost use Rattle.knots.specs.Joined.{total};
 ghost use Rattle.map_fields.specs.Fields.{lines};
 ghost use Rattle.map_spline.specs.Surface.{Lent};
-ghost use Rattle.map_work.specs.Program.{third, second, limitChecks, program};
+ghost use Rattle.map_work.specs.Program.{third, second, program};
 ghost use Rattle.map_work.specs.Steps.{Ready, Buffers, fourOf, fromShape};
 use crate::queries::run;
 use shape::Shape;
@@ -144,7 +144,7 @@ fn sized(
 
 // The refusal of the shape, or 0.
 fn shape_number(count: usize, dims: [usize; 4]) -> u64
-    ensures { λ r. ⌜ (r ≡ firstRefusal (limitChecks count (take count dims))) × (r < 10) ⌝ }
+    ensures { λ r. ⌜ (r ≡ firstRefusal (limitChecks 512 count (take count dims))) × (r < 10) ⌝ }
 {
     let shape = Shape { count, dims };
     let answer = shape.check();

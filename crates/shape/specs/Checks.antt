@@ -59,12 +59,16 @@ unfoldable pub anyShort : List ℕ → Bool
 anyShort [] = false
 anyShort (n ∷ ns) = ltb n 4 || anyShort ns
 
-abbrev pub shapeChecks : ℕ → List ℕ → List Check
-shapeChecks count lens =
+-- one to four axes, of at least four points each, and `most` points in all
+abbrev pub limitChecks : ℕ → ℕ → List ℕ → List Check
+limitChecks most count dims =
     refuse 1 (eqb count 0 || ltb 4 count)
-    ∷ refuse 2 (anyShort (take count lens))
-    ∷ refuse 3 (ltb mostPoints (size (take count lens)))
+    ∷ refuse 2 (anyShort dims)
+    ∷ refuse 3 (ltb most (size dims))
     ∷ []
+
+abbrev pub shapeChecks : ℕ → List ℕ → List Check
+shapeChecks count lens = limitChecks mostPoints count (take count lens)
 
 -- a buffer that is to hold `wanted` elements
 abbrev pub lengthCheck : ℕ → ℕ → List Check
