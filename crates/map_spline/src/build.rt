@@ -11,7 +11,6 @@ ghost use Rattle.regular_map.specs.Map as Regular;
 ghost use Rattle.rectilinear_map.specs.Map as Rectilinear;
 ghost use Rattle.map_spline.specs.Surface.{regularSurface, rectilinearSurface, regularOf, rectilinearOf, regularNumber, rectilinearNumber, surfaceOf, Lent, MadeFrom};
 use rectilinear_map::MultiBsplineRectilinear;
-use rectilinear_weights::Ghost;
 use regular_map::MultiBsplineRegular;
 use shape::Shape;
 
@@ -26,36 +25,6 @@ pub struct Map {
 pub struct Made {
     pub number: u64,
     pub map: Map,
-}
-
-fn no_regular() -> MultiBsplineRegular {
-    MultiBsplineRegular {
-        count: 0,
-        dims: [0, 0, 0, 0],
-        starts: [0.0, 0.0, 0.0, 0.0],
-        steps: [0.0, 0.0, 0.0, 0.0],
-        linearize_extrapolation: false,
-    }
-}
-
-fn no_ghost() -> Ghost {
-    Ghost {
-        p0: 0.0,
-        p1: 0.0,
-        p2: 0.0,
-    }
-}
-
-fn no_rectilinear() -> MultiBsplineRectilinear {
-    let low = [no_ghost(), no_ghost(), no_ghost(), no_ghost()];
-    let high = [no_ghost(), no_ghost(), no_ghost(), no_ghost()];
-    MultiBsplineRectilinear {
-        count: 0,
-        dims: [0, 0, 0, 0],
-        low_ghost_coeffs: low,
-        high_ghost_coeffs: high,
-        linearize_extrapolation: false,
-    }
 }
 
 // The starts: the first half of the row.
@@ -139,7 +108,7 @@ pub fn make(
         let built = make_regular(linear, count, dims, row, samples, coeffs, scratch);
         let answer = built.answer;
         let even = built.map;
-        let uneven = no_rectilinear();
+        let uneven = rectilinear_map::blank();
         let map = Map {
             regular: true,
             even: even,
@@ -152,7 +121,7 @@ pub fn make(
     }
     let built = make_rectilinear(linear, count, dims, row, samples, coeffs, scratch);
     let answer = built.answer;
-    let even = no_regular();
+    let even = regular_map::blank();
     let uneven = built.map;
     let map = Map {
         regular: false,

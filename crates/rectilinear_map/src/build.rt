@@ -57,7 +57,7 @@ fn no_ghost() -> Ghost
     }
 }
 
-fn no_ghosts() -> [Ghost; 4]
+pub fn no_ghosts() -> [Ghost; 4]
     ensures { λ r. ⌜ ghosts r ≡ noGhost ∷ noGhost ∷ noGhost ∷ noGhost ∷ [] ⌝ }
 {
     [no_ghost(), no_ghost(), no_ghost(), no_ghost()]
@@ -109,20 +109,26 @@ fn high_ghosts(count: usize, dims: [usize; 4], grid: &[f64]) -> [Ghost; 4]
     ]
 }
 
-// A refused map: nothing but zeros.
-fn refused(refusal: Refusal) -> Built
-    ensures { λ r. ⌜ (answerNumber (r .answer) ≡ refusalNumber refusal) × (mapOf (r .map) ≡ blank) ⌝ }
+// Nothing but zeros.
+pub fn blank() -> MultiBsplineRectilinear
+    ensures { λ r. ⌜ mapOf r ≡ blank ⌝ }
 {
     let dims = [0, 0, 0, 0];
     let low = no_ghosts();
     let high = no_ghosts();
-    let map = MultiBsplineRectilinear {
+    MultiBsplineRectilinear {
         count: 0,
         dims: dims,
         low_ghost_coeffs: low,
         high_ghost_coeffs: high,
         linearize_extrapolation: false,
-    };
+    }
+}
+
+fn refused(refusal: Refusal) -> Built
+    ensures { λ r. ⌜ (answerNumber (r .answer) ≡ refusalNumber refusal) × (mapOf (r .map) ≡ blank) ⌝ }
+{
+    let map = blank();
     Built {
         answer: Answer::Refused(refusal),
         map: map,

@@ -6,6 +6,8 @@ mod build;
 mod eval;
 mod record;
 
+pub use build::blank;
+pub use build::no_ghosts;
 pub use evaluation::Gradient;
 pub use evaluation::Valued;
 pub use record::Built;

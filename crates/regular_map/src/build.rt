@@ -51,20 +51,26 @@ pub fn check_map(count: usize, dims: [usize; 4], steps: [f64; 4], coeffs: usize)
     Answer::Accepted
 }
 
-// A refused map: nothing but zeros.
-fn refused(refusal: Refusal) -> Built
-    ensures { λ r. ⌜ (answerNumber (r .answer) ≡ refusalNumber refusal) × (mapOf (r .map) ≡ blank) ⌝ }
+// Nothing but zeros.
+pub fn blank() -> MultiBsplineRegular
+    ensures { λ r. ⌜ mapOf r ≡ blank ⌝ }
 {
     let dims = [0, 0, 0, 0];
     let starts = [0.0, 0.0, 0.0, 0.0];
     let steps = [0.0, 0.0, 0.0, 0.0];
-    let map = MultiBsplineRegular {
+    MultiBsplineRegular {
         count: 0,
         dims: dims,
         starts: starts,
         steps: steps,
         linearize_extrapolation: false,
-    };
+    }
+}
+
+fn refused(refusal: Refusal) -> Built
+    ensures { λ r. ⌜ (answerNumber (r .answer) ≡ refusalNumber refusal) × (mapOf (r .map) ≡ blank) ⌝ }
+{
+    let map = blank();
     Built {
         answer: Answer::Refused(refusal),
         map: map,

@@ -6,6 +6,7 @@ mod build;
 mod eval;
 mod record;
 
+pub use build::blank;
 pub use evaluation::Gradient;
 pub use evaluation::Valued;
 pub use record::Built;

@@ -5,7 +5,7 @@ use evaluation::Gradient;
 use evaluation::Valued;
 use rectilinear_map::Built;
 use rectilinear_map::MultiBsplineRectilinear;
-use rectilinear_weights::Ghost;
+use rectilinear_map::no_ghosts;
 use regular_map::MultiBsplineRegular;
 use shape::Answer;
 use shape::Shape;
@@ -108,17 +108,9 @@ fn rectilinear(numbers: &[u64], grid: &[f64], coeffs: &[f64]) -> MultiBsplineRec
     }
 }
 
-fn no_ghost() -> Ghost {
-    Ghost {
-        p0: 0.0,
-        p1: 0.0,
-        p2: 0.0,
-    }
-}
-
 fn bare(count: usize, dims: [usize; 4], flag: bool) -> MultiBsplineRectilinear {
-    let low = [no_ghost(), no_ghost(), no_ghost(), no_ghost()];
-    let high = [no_ghost(), no_ghost(), no_ghost(), no_ghost()];
+    let low = no_ghosts();
+    let high = no_ghosts();
     MultiBsplineRectilinear {
         count: count,
         dims: dims,

@@ -6,15 +6,13 @@ use Rattle.map_spline.proofs.build.make.Reads as reads
 use Rattle.map_spline.proofs.build.make.Lts as lts
 use Rattle.map_spline.proofs.build.make_rectilinear.Reads as make-rectilinear-reads
 use Rattle.map_spline.proofs.build.make_regular.Reads as make-regular-reads
-use Rattle.map_spline.proofs.build.no_rectilinear.Reads as no-rectilinear-reads
-use Rattle.map_spline.proofs.build.no_regular.Reads as no-regular-reads
 use Rattle.shape.proofs.answers.Answer.number.Reads as number-reads
 
 make-regular-requires : tie.Need-make-regular-requires
 make-regular-requires c κs = lent-at (rw (c .before .before .if1 .taken)) (c .before .before .before .before .before .before .before .pre)
 
-no-rectilinear-requires : tie.Need-no-rectilinear-requires
-no-rectilinear-requires c κs = search needs
+blank-requires : tie.Need-blank-requires
+blank-requires c κs = search needs
 
 number-requires : tie.Need-number-requires
 number-requires c κs = search needs
@@ -31,8 +29,8 @@ returns c = made-at (rw (c .before .before .before .before .before .before .befo
 make-rectilinear-requires : tie.Need-make-rectilinear-requires
 make-rectilinear-requires c κs = lent-at (rw (c .before .before .if1 .left)) (c .before .before .before .before .before .before .before .pre)
 
-no-regular-requires : tie.Need-no-regular-requires
-no-regular-requires c κs = search needs
+blank-requires-2 : tie.Need-blank-requires-2
+blank-requires-2 c κs = search needs
 
 number-requires-2 : tie.Need-number-requires-2
 number-requires-2 c κs = search needs
@@ -51,13 +49,13 @@ make-spec =
     tie.close
     (tie.spec
     make-regular-requires
-    no-rectilinear-requires
+    blank-requires
     number-requires
     same-length
     same-length-2
     returns
     make-rectilinear-requires
-    no-regular-requires
+    blank-requires-2
     number-requires-2
     same-length-3
     same-length-4

@@ -4,7 +4,7 @@ use Rattle.rectilinear_map.proofs.build.refused.Statement.{statement}
 use Rattle.rectilinear_map.proofs.build.refused.Tie as tie
 
 returns : tie.Need-returns
-returns c = (refl, rw (c .no-ghosts2 .ensures, c .before .no-ghosts .ensures))
+returns c = (refl, c .blank .ensures)
 
 pub refused-spec : {M : Type 1} → statement M
-refused-spec = tie.close (tie.spec (λ c κs. search needs) (λ c κs. search needs) returns)
+refused-spec = tie.close (tie.spec (λ c κs. search needs) returns)

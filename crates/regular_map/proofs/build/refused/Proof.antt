@@ -1,11 +1,10 @@
 use mathlib.Core.Path.{refl}
-use lib.Ieee.{ofBits}
+use borrow.Author.Needs.{needs}
 use Rattle.regular_map.proofs.build.refused.Statement.{statement}
 use Rattle.regular_map.proofs.build.refused.Tie as tie
 
 returns : tie.Need-returns
-unfolding ofBits
-returns c = (refl, refl)
+returns c = (refl, c .blank .ensures)
 
 pub refused-spec : {M : Type 1} → statement M
-refused-spec = tie.close (tie.spec returns)
+refused-spec = tie.close (tie.spec (λ c κs. search needs) returns)
