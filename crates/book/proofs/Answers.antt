@@ -1,46 +1,19 @@
 -- What an accepted begin shows, and what it leaves a line call to check: scratch, and whether the line is due. Assumes nothing.
 use mathlib.Core.Path.{_≡_, refl, sym, _∙_}
-use mathlib.Core.Bool.{Bool, true, false, cond, not}
+use mathlib.Core.Bool.{Bool, true, false, cond}
 use mathlib.Core.List.{List, [], _++_}
-use Prim.Native.Nat.{ℕ, suc, _*_, _≤_}
-use native.Mathlib.Omega.{arith}
-use lib.Dec.{eqb, ltb}
+use Prim.Native.Nat.{ℕ, _*_, _≤_}
+use lib.Dec.{eqb}
 use lib.ListN.{length, take}
-use borrow.Author.Tests.{ltb-false, eqb-true, eq-eqb, not-false}
 use Rattle.shape.specs.Shape.{longest, size, points, stride}
-use Rattle.shape.specs.Checks.{Check, firstRefusal, shapeChecks, lengthCheck, scratchCheck, Positive}
-use Rattle.shape.proofs.Accepted.{passed-append, prefix-passed, accepted-append}
+use Rattle.shape.specs.Checks.{Check, firstRefusal, shapeChecks, scratchCheck, Positive}
+use Rattle.shape.proofs.Checks.{length-passes, length-passed, scratch-passed}
+use Rattle.shape.proofs.Accepted.{passed-append, prefix-passed, both-passed, accepted-append}
 use Rattle.shape.proofs.Scratch.{length-scratch}
 use Rattle.shape.proofs.Fit.{length-solveLine}
 use Rattle.book.specs.LineCall.{Call, State, dueChecks, beginChecks, beginAnswer, callChecks, callAnswer, lineCall, callScratch}
 use Rattle.book.specs.Due.{DueBytes}
 use Rattle.book.proofs.Bytes.{due-bytes, length-bumped}
-
--- ---- checks that pass, one kind after the other
-
-pub both-passed : (xs ys : List Check) → Positive xs → firstRefusal (xs ++ ys) ≡ 0 → (firstRefusal xs ≡ 0) × (firstRefusal ys ≡ 0)
-both-passed xs ys p e = let q = prefix-passed xs ys e in (q, sym (passed-append xs ys p q) ∙ e)
-
-pub one-passed : (x : Bool) (n y : ℕ) → cond x (suc n) y ≡ 0 → (x ≡ false) × (y ≡ 0)
-one-passed true n y e = absurd (omega (arith, e))
-one-passed false n y e = (refl, e)
-
--- a length that is right, and scratch that is long enough
-pub length-passed : (wanted given : ℕ) (ys : List Check) → firstRefusal (lengthCheck wanted given ++ ys) ≡ 0 → (given ≡ wanted) × (firstRefusal ys ≡ 0)
-unfolding firstRefusal
-length-passed wanted given ys e =
-    let p = one-passed (not (eqb given wanted)) 1 (firstRefusal ys) e in
-    (eqb-true given wanted (not-false (eqb given wanted) (p .0)), p .1)
-
-pub length-append : (wanted given : ℕ) (ys : List Check) → given ≡ wanted → firstRefusal (lengthCheck wanted given ++ ys) ≡ firstRefusal ys
-unfolding firstRefusal
-length-append wanted given ys e = rw (eq-eqb given wanted e)
-
-pub scratch-passed : (dims : List ℕ) (scratch : ℕ) (ys : List Check) → firstRefusal (scratchCheck dims scratch ++ ys) ≡ 0 → (2 * longest dims ≤ scratch) × (firstRefusal ys ≡ 0)
-unfolding firstRefusal
-scratch-passed dims scratch ys e =
-    let p = one-passed (ltb scratch (2 * longest dims)) 3 (firstRefusal ys) e in
-    (ltb-false scratch (2 * longest dims) (p .0), p .1)
 
 -- ---- begin, and a line call
 
@@ -71,16 +44,16 @@ module _ (count : ℕ) (lens : List ℕ) (grid knots : List Check) (pg : Positiv
       let n : ℕ = size (take count lens) in
       let shape = prefix-passed (shapeChecks count lens) _ e in
       let p = both-passed grid _ pg (sym (accepted-append count lens shape _) ∙ e) in
-      let q = length-passed n coefs _ (p .1) in
-      let r = length-passed n ledger _ (q .1) in
+      let q = length-passed _ n coefs (p .1) in
+      let r = length-passed _ n ledger (q .1) in
       let s = both-passed knots _ pk (r .1) in
-      let t = length-passed n samples _ (s .1) in
+      let t = length-passed _ n samples (s .1) in
       record {
         ready = record { shape-passed = shape; grid-passed = p .0; knots-passed = s .0 };
         samples-size = t .0;
         coefs-size = q .0;
         ledger-size = r .0;
-        scratch-room = scratch-passed (take count lens) scratch [] (t .1) .0;
+        scratch-room = scratch-passed [] (take count lens) scratch (t .1) .0;
       }
 
   module _ {A : Type 0} (call : Call A) (state : State A) where
@@ -90,10 +63,10 @@ module _ (count : ℕ) (lens : List ℕ) (grid knots : List Check) (pg : Positiv
         let dims : List ℕ = take count lens in
         let shape = prefix-passed (shapeChecks count lens) _ e in
         let p = both-passed grid _ pg (sym (accepted-append count lens shape _) ∙ e) in
-        let q = length-passed (size dims) (length (state .coefs)) _ (p .1) in
-        let r = length-passed (size dims) (length (state .ledger)) _ (q .1) in
+        let q = length-passed _ (size dims) (length (state .coefs)) (p .1) in
+        let r = length-passed _ (size dims) (length (state .ledger)) (q .1) in
         let s = both-passed knots _ pk (r .1) in
-        let t = scratch-passed dims (length (call .scratch)) _ (s .1) in
+        let t = scratch-passed _ dims (length (call .scratch)) (s .1) in
         record {
           ready = record { shape-passed = shape; grid-passed = p .0; knots-passed = s .0 };
           coefs-size = q .0;
@@ -110,8 +83,8 @@ module _ (count : ℕ) (lens : List ℕ) (grid knots : List Check) (pg : Positiv
     call-left ready hc hl =
         accepted-append count lens (ready .shape-passed) _
         ∙ passed-append grid _ pg (ready .grid-passed)
-        ∙ length-append (size (take count lens)) (length (state .coefs)) _ hc
-        ∙ length-append (size (take count lens)) (length (state .ledger)) _ hl
+        ∙ length-passes _ (size (take count lens)) (length (state .coefs)) hc
+        ∙ length-passes _ (size (take count lens)) (length (state .ledger)) hl
         ∙ passed-append knots _ pk (ready .knots-passed)
 
 -- ---- a call keeps the lengths of what it is lent
@@ -120,21 +93,21 @@ keeps : {X : Type 0} (f : X → ℕ) (b : Bool) (x y : X) → f x ≡ f y → f 
 keeps f true x y e = e
 keeps f false x y e = refl
 
-module _ (count : ℕ) (lens : List ℕ) (grid knots : List Check) {A : Type 0} (o : A) (upper solve : ℕ → (ℕ → A) → ℕ → A) (call : Call A) (state : State A) where
-  pub length-coefs : length (lineCall count lens grid knots o upper solve call state .coefs) ≡ length (state .coefs)
+module _ (count : ℕ) (lens : List ℕ) (grid knots : List Check) {A : Type 0} (o : A) (solve : ℕ → (ℕ → A) → ℕ → A) (call : Call A) (state : State A) where
+  pub length-coefs : length (lineCall count lens grid knots o solve call state .coefs) ≡ length (state .coefs)
   unfolding lineCall
   length-coefs =
       keeps (λ (s : State A). length (s .coefs)) (eqb (callAnswer count lens grid knots call state) 0) _ state
       (length-solveLine o (solve (call .axis)) (points (take count lens) (call .axis)) (stride (take count lens) (call .axis)) (call .line) (state .coefs))
 
-  pub length-ledger : length (lineCall count lens grid knots o upper solve call state .ledger) ≡ length (state .ledger)
+  pub length-ledger : length (lineCall count lens grid knots o solve call state .ledger) ≡ length (state .ledger)
   unfolding lineCall
   length-ledger =
       keeps (λ (s : State A). length (s .ledger)) (eqb (callAnswer count lens grid knots call state) 0) _ state
       (length-bumped (take count lens) (call .axis) (call .line) (state .ledger))
 
-  pub length-call-scratch : length (callScratch count lens grid knots o upper solve call state) ≡ length (call .scratch)
+  pub length-call-scratch : (upper : ℕ → (ℕ → A) → ℕ → A) → length (callScratch count lens grid knots o solve upper call state) ≡ length (call .scratch)
   unfolding callScratch
-  length-call-scratch =
+  length-call-scratch upper =
       keeps (λ (s : List A). length s) (eqb (callAnswer count lens grid knots call state) 0) _ (call .scratch)
       (length-scratch (longest (take count lens)) _ _ (points (take count lens) (call .axis)) (call .scratch))

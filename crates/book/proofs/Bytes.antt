@@ -15,10 +15,11 @@ use Rattle.shape.specs.Checks.{firstRefusal}
 use Rattle.shape.specs.Fit.{along}
 use Rattle.shape.proofs.Cells.{length-put, put-next, line-apart, line-in, line-out}
 use Rattle.shape.proofs.Radix.{NotEmpty, stride-pos, lineAt-cellAt, cellAt-lineAt, placeAt-lt, cellAt-lt}
-use Rattle.book.specs.LineCall.{anyBelow, byteAbove, byteBelow, oneMore, bumped}
+use Rattle.shape.specs.Below.{anyBelow}
+use Rattle.book.specs.LineCall.{byteAbove, byteBelow, oneMore, bumped}
 use Rattle.book.specs.Due.{DueBytes, DueBytesMeans}
 use Rattle.book.specs.Order.{sum}
-use Rattle.book.proofs.Tests.{and-both, any-none, none-at, NoneYet, none-step, one-found}
+use Rattle.shape.proofs.Below.{and-both, any-none, none-at, NoneYet, none-step, one-found}
 
 -- ---- a search along a line for a byte above a, and for one below: none among the first i yet
 

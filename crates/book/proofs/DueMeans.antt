@@ -14,7 +14,7 @@ use Rattle.shape.proofs.Radix.{NotEmpty, lineAt-cellAt, cellAt-lineAt, placeAt-
 use Rattle.book.specs.Book.{Book, isSolved, lowerSolved, isDue}
 use Rattle.book.specs.Due.{DueMeans}
 use Rattle.book.specs.Order.{AllSolved, SomeDue}
-use Rattle.book.proofs.Tests.{and-both, all-intro, all-at, all-or-one}
+use Rattle.shape.proofs.Below.{and-both, all-intro, all-at, all-or-one}
 
 -- the test looks at each cell of the line, and at each lower axis
 pub lower-at : (dims : List ℕ) → NotEmpty dims → (book : Book) (a l : ℕ) → a < length dims → lowerSolved dims book a l ≡ true

@@ -1,4 +1,3 @@
-pub mod Tests
 pub mod Bytes
 pub mod Answers
 pub mod DueMeans

@@ -2,7 +2,7 @@
 use mathlib.Core.Path.{_≡_, refl, sym, ap, _∙_}
 use mathlib.Core.Logic.{_≢_}
 use mathlib.Core.Bool.{Bool, true, false, cond, not, _&&_}
-use mathlib.Core.List.{List, _∷_, _++_}
+use mathlib.Core.List.{List, [], _∷_, _++_}
 use Prim.Native.Nat.{ℕ, suc, _+_, _-_, _*_, _≤_, _<_}
 use native.Mathlib.Decide.{ℕ-discrete}
 use native.Mathlib.Numerals.{add-one}
@@ -11,16 +11,18 @@ use lib.ListN.{length, getD, take}
 use lib.Dec.{ltb, eqb}
 use borrow.Author.Tests.{ltb-true, ltb-false, lt-ltb, eq-eqb, eqb-true, not-false}
 use Rattle.shape.specs.Shape.{longest, size, points, stride, lines, isLine, first, cellAt, lineAt, placeAt}
-use Rattle.shape.specs.Checks.{Check, firstRefusal, scratchCheck, Positive}
+use Rattle.shape.specs.Checks.{Check, refuse, firstRefusal, scratchCheck, Positive}
 use Rattle.shape.specs.Fit.{solveLine, along, fitAfter}
+use Rattle.shape.proofs.Checks.{scratch-passed}
 use Rattle.shape.proofs.Radix.{NotEmpty, stride-pos, lineAt-cellAt, placeAt-lt, cellAt-lt}
 use Rattle.shape.proofs.Fit.{Looks, length-solveLine, solved-off, solved-on, fit-step}
-use Rattle.book.specs.LineCall.{Call, State, anyBelow, byteAbove, byteBelow, dueChecks, bumped, callAnswer, lineCall}
-use Rattle.book.specs.Book.{Book, allBelow, isSolved, lowerSolved, isDue, bookChecks, bookAnswer, bookCall, solvedLength}
+use Rattle.shape.specs.Below.{anyBelow, allBelow}
+use Rattle.book.specs.LineCall.{Call, State, byteAbove, byteBelow, dueChecks, bumped, callAnswer, lineCall}
+use Rattle.book.specs.Book.{Book, isSolved, lowerSolved, isDue, bookChecks, bookAnswer, bookCall, solvedLength}
 use Rattle.book.specs.Order.{sum}
-use Rattle.book.proofs.Tests.{is-false, same-test, and-both, any-same, all-ext, all-not, all-ltb, sumBelow-ext, sumBelow-one}
+use Rattle.shape.proofs.Below.{is-false, same-test, and-both, any-same, all-ext, all-not, all-ltb, sumBelow-ext, sumBelow-one}
 use Rattle.book.proofs.Bytes.{three-passed, is-line, length-bumped, bumped-off, bumped-on, sum-bumped}
-use Rattle.book.proofs.Answers.{Ready, one-passed, call-left}
+use Rattle.book.proofs.Answers.{Ready, call-left}
 use Rattle.book.proofs.DueMeans.{lower-at}
 
 -- ---- what an answer of the book tells
@@ -36,7 +38,7 @@ unfolding bookChecks firstRefusal isDue
 book-accepts dims book call e =
     let a : ℕ = call .axis in
     let l : ℕ = call .line in
-    let s = one-passed (ltb (length (call .scratch)) (2 * longest dims)) 3 _ e in
+    let s = scratch-passed (refuse 7 (not (isLine dims a l)) ∷ refuse 8 (isSolved book a l) ∷ refuse 9 (not (isDue dims book a l)) ∷ []) dims (length (call .scratch)) e in
     let t = three-passed (not (isLine dims a l)) (isSolved book a l) (not (isDue dims book a l)) (s .1) in
     let r = is-line dims a l (t .0) in
     let both = and-both (not (isSolved book a l)) (lowerSolved dims book a l) (not-false (isDue dims book a l) (t .2)) in
@@ -230,13 +232,13 @@ module _ {A : Type 0} (o : A) (solve : ℕ → (ℕ → A) → ℕ → A) (dims 
 
 -- ---- any call
 
-module _ {A : Type 0} (o : A) (upper solve : ℕ → (ℕ → A) → ℕ → A) (count : ℕ) (lens : List ℕ) (grid knots : List Check) (pg : Positive grid) (pk : Positive knots)
+module _ {A : Type 0} (o : A) (solve : ℕ → (ℕ → A) → ℕ → A) (count : ℕ) (lens : List ℕ) (grid knots : List Check) (pg : Positive grid) (pk : Positive knots)
     (ready : Ready count lens grid knots) (samples : List A) (g : Given solve (take count lens) samples)
     (state : State A) (book : Book) (tied : Tied o solve (take count lens) samples state book) (call : Call A) where
   pub same-answer : callAnswer count lens grid knots call state ≡ bookAnswer (take count lens) book call
   same-answer = call-left count lens grid knots pg pk call state ready (tied .coefs-size) (tied .ledger-size) ∙ same-left o solve (take count lens) samples g state book tied call
 
-  pub tied-next : Tied o solve (take count lens) samples (lineCall count lens grid knots o upper solve call state) (bookCall (take count lens) call book)
+  pub tied-next : Tied o solve (take count lens) samples (lineCall count lens grid knots o solve call state) (bookCall (take count lens) call book)
   unfolding lineCall bookCall next new-state new-book
   tied-next = rw same-answer (go (eqb (bookAnswer (take count lens) book call) 0) refl)
     where

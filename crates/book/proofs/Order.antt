@@ -19,7 +19,7 @@ use Rattle.shape.proofs.Fit.{length-fitAfter}
 use Rattle.book.specs.LineCall.{Call, State, callAnswer, lineCall, after, answers, begun}
 use Rattle.book.specs.Book.{Book, isSolved, bookAnswer, bookCall, bookAfter, bookAnswers, solvedThrough, solvedLength}
 use Rattle.book.specs.Order.{AllSolved, Agrees, Claim, OrderNeverShows, SameEnd}
-use Rattle.book.proofs.Tests.{count-ext, count-ltb, count-all, count-full, sumBelow-zero}
+use Rattle.shape.proofs.Below.{count-ext, count-ltb, count-all, count-full, sumBelow-zero}
 use Rattle.book.proofs.Bytes.{sum-zeros}
 use Rattle.book.proofs.Answers.{Ready, begin-passed}
 use Rattle.book.proofs.DueMeans.{all-or-due}
@@ -89,25 +89,25 @@ module _ {A : Type 0} (o : A) (solve : ℕ → (ℕ → A) → ℕ → A) (dims 
 
 -- ---- the list
 
-module _ {A : Type 0} (o : A) (upper solve : ℕ → (ℕ → A) → ℕ → A) (count : ℕ) (lens : List ℕ) (grid knots : List Check) (pg : Positive grid) (pk : Positive knots)
+module _ {A : Type 0} (o : A) (solve : ℕ → (ℕ → A) → ℕ → A) (count : ℕ) (lens : List ℕ) (grid knots : List Check) (pg : Positive grid) (pk : Positive knots)
     (ready : Ready count lens grid knots) (samples : List A) (g : Given solve (take count lens) samples) where
   same : (calls : List (Call A)) (state : State A) (book : Book) → Tied o solve (take count lens) samples state book
-      → answers count lens grid knots o upper solve calls state ≡ bookAnswers (take count lens) calls book
+      → answers count lens grid knots o solve calls state ≡ bookAnswers (take count lens) calls book
   unfolding answers bookAnswers
   same [] state book tied = refl
   same (call ∷ calls) state book tied =
-      let e₁ : callAnswer count lens grid knots call state ≡ bookAnswer (take count lens) book call = same-answer o upper solve count lens grid knots pg pk ready samples g state book tied call in
-      let e₂ : answers count lens grid knots o upper solve calls (lineCall count lens grid knots o upper solve call state) ≡ bookAnswers (take count lens) calls (bookCall (take count lens) call book) =
-      same calls _ _ (tied-next o upper solve count lens grid knots pg pk ready samples g state book tied call) in
+      let e₁ : callAnswer count lens grid knots call state ≡ bookAnswer (take count lens) book call = same-answer o solve count lens grid knots pg pk ready samples g state book tied call in
+      let e₂ : answers count lens grid knots o solve calls (lineCall count lens grid knots o solve call state) ≡ bookAnswers (take count lens) calls (bookCall (take count lens) call book) =
+      same calls _ _ (tied-next o solve count lens grid knots pg pk ready samples g state book tied call) in
       cc
 
   kept : (calls : List (Call A)) (state : State A) (book : Book) → Tied o solve (take count lens) samples state book
-      → Tied o solve (take count lens) samples (after count lens grid knots o upper solve calls state) (bookAfter (take count lens) calls book)
+      → Tied o solve (take count lens) samples (after count lens grid knots o solve calls state) (bookAfter (take count lens) calls book)
   unfolding after bookAfter
   kept [] state book tied = tied
-  kept (call ∷ calls) state book tied = kept calls _ _ (tied-next o upper solve count lens grid knots pg pk ready samples g state book tied call)
+  kept (call ∷ calls) state book tied = kept calls _ _ (tied-next o solve count lens grid knots pg pk ready samples g state book tied call)
 
-  claim : (calls : List (Call A)) → Claim o upper solve count lens grid knots samples calls
+  claim : (calls : List (Call A)) → Claim o solve count lens grid knots samples calls
   claim calls =
       let t = start o solve (take count lens) samples g in
       record {
@@ -116,11 +116,11 @@ module _ {A : Type 0} (o : A) (upper solve : ℕ → (ℕ → A) → ℕ → A) 
       }
 
 pub order-never-shows : OrderNeverShows
-order-never-shows A o upper solve count lens grid knots four pg pk looks samples coefs ledger scratch e calls =
+order-never-shows A o solve count lens grid knots four pg pk looks samples coefs ledger scratch e calls =
     let p = begin-passed count lens grid knots pg pk (length samples) coefs ledger scratch e in
     let u : Usable count lens = usable count lens four (p .ready .shape-passed) in
     let axes : length (take count lens) ≡ count = axes-are count lens four u in
-    claim o upper solve count lens grid knots pg pk (p .ready) samples
+    claim o solve count lens grid knots pg pk (p .ready) samples
     (record {
       not-empty = usable-not-empty count lens four u;
       looks = λ a ha. let ha′ : a < count = rw axes at ha in looks a ha′ (room count lens four u a ha′ .four-points);

@@ -1,11 +1,12 @@
 -- The book of a list of line calls: fed the shape and each call's axis, line and scratch length, and nothing else, it keeps
 -- which lines are solved. Assumes nothing.
 --     dims     the lengths of the axes, axis 0 first
-use mathlib.Core.Bool.{Bool, true, false, cond, not, _&&_, _||_}
+use mathlib.Core.Bool.{Bool, false, cond, not, _&&_, _||_}
 use mathlib.Core.List.{List, [], _∷_, _++_}
-use Prim.Native.Nat.{ℕ, zero, suc, _+_}
+use Prim.Native.Nat.{ℕ}
 use lib.Dec.{eqb}
 use lib.ListN.{length}
+use Rattle.shape.specs.Below.{allBelow, howMany, sumBelow}
 use Rattle.shape.specs.Shape.{points, lines, isLine, cellAt, lineAt}
 use Rattle.shape.specs.Checks.{Check, refuse, firstRefusal, scratchCheck}
 use Rattle.book.specs.LineCall.{Call}
@@ -22,11 +23,6 @@ Book = List Line
 unfoldable pub isSolved : Book → ℕ → ℕ → Bool
 isSolved [] a l = false
 isSolved (x ∷ book) a l = eqb (x .axis) a && eqb (x .number) l || isSolved book a l
-
--- does the test pass at each number below n?
-unfoldable pub allBelow : (ℕ → Bool) → ℕ → Bool
-allBelow test zero = true
-allBelow test (suc n) = test n && allBelow test n
 
 -- every line of a lower axis that shares a cell with line l of axis a is solved: of each of its cells, and of each lower axis
 -- b, the line of axis b through that cell
@@ -64,19 +60,9 @@ bookAnswers dims (call ∷ calls) book = bookAnswer dims book call ∷ bookAnswe
 
 -- ---- what the book says of a cell, and of the ledger
 
--- at how many numbers below n the test passes
-unfoldable pub countBelow : (ℕ → Bool) → ℕ → ℕ
-countBelow test zero = 0
-countBelow test (suc n) = cond (test n) 1 0 + countBelow test n
-
 -- how many solved lines run through a cell: of each axis one line does
 unfoldable pub solvedThrough : List ℕ → Book → ℕ → ℕ
-solvedThrough dims book cell = countBelow (λ a. isSolved book a (lineAt dims a cell)) (length dims)
-
--- g 0 + .. + g (n - 1)
-unfoldable pub sumBelow : (ℕ → ℕ) → ℕ → ℕ
-sumBelow g zero = 0
-sumBelow g (suc n) = g n + sumBelow g n
+solvedThrough dims book cell = howMany (λ a. isSolved book a (lineAt dims a cell)) (length dims)
 
 -- the summed lengths of the solved lines
 unfoldable pub solvedLength : List ℕ → Book → ℕ

@@ -3,22 +3,18 @@
 --     grid, knots    the checks of the joined grid's length and of its knots; none on a regular grid
 --     ledger         one byte a cell
 --     o, upper, solve   as in shape/specs/Fit.antt
-use mathlib.Core.Bool.{Bool, false, cond, not, _||_}
+use mathlib.Core.Bool.{Bool, cond, not}
 use mathlib.Core.List.{List, [], _∷_}
-use Prim.Native.Nat.{ℕ, zero, suc, _+_}
+use Prim.Native.Nat.{ℕ, _+_}
 use lib.Dec.{eqb, ltb}
 use lib.ListN.{length, take, replicate}
+use Rattle.shape.specs.Below.{anyBelow}
 use Rattle.shape.specs.Shape.{longest, size, points, stride, isLine, first}
 use Rattle.shape.specs.Cells.{line, writeLine}
 use Rattle.shape.specs.Checks.{Check, refuse, firstRefusal, inOrder, shapeChecks, lengthCheck, scratchCheck}
 use Rattle.shape.specs.Fit.{solveLine, lineScratch, along}
 
 -- ---- the due test, on whatever ledger the call is handed
-
--- does the test pass at some number below n?
-unfoldable pub anyBelow : (ℕ → Bool) → ℕ → Bool
-anyBelow test zero = false
-anyBelow test (suc n) = test n || anyBelow test n
 
 -- the byte of entry i of a line is above a, or below it
 abbrev pub byteAbove : ℕ → ℕ → ℕ → List ℕ → ℕ → Bool
@@ -92,7 +88,7 @@ module _ (count : ℕ) (lens : List ℕ) (grid knots : List Check) where
   abbrev pub callAnswer : {A : Type 0} → Call A → State A → ℕ
   callAnswer call state = firstRefusal (callChecks call state)
 
-  module _ {A : Type 0} (o : A) (upper solve : ℕ → (ℕ → A) → ℕ → A) where
+  module _ {A : Type 0} (o : A) (solve : ℕ → (ℕ → A) → ℕ → A) where
     -- an accepted call solves its line and adds 1 to its bytes; a refusal changes nothing
     unfoldable pub lineCall : Call A → State A → State A
     lineCall call state =
@@ -106,14 +102,6 @@ module _ (count : ℕ) (lens : List ℕ) (grid knots : List Check) where
         })
         state
 
-    -- what it leaves in scratch
-    unfoldable pub callScratch : Call A → State A → List A
-    callScratch call state =
-        let dims = take count lens in
-        let a = call .axis in
-        let y = along o dims a (call .line) (state .coefs) in
-        cond (eqb (callAnswer call state) 0) (lineScratch (longest dims) (upper a y) (solve a y) (points dims a) (call .scratch)) (call .scratch)
-
     -- a list of calls, one after the other: what they leave, and what they answer
     unfoldable pub after : List (Call A) → State A → State A
     after [] state = state
@@ -122,6 +110,14 @@ module _ (count : ℕ) (lens : List ℕ) (grid knots : List Check) where
     unfoldable pub answers : List (Call A) → State A → List ℕ
     answers [] state = []
     answers (call ∷ calls) state = callAnswer call state ∷ answers calls (lineCall call state)
+
+    -- what a call leaves in scratch: the upper numbers of its line, and its coefficients
+    unfoldable pub callScratch : (upper : ℕ → (ℕ → A) → ℕ → A) → Call A → State A → List A
+    callScratch upper call state =
+        let dims = take count lens in
+        let a = call .axis in
+        let y = along o dims a (call .line) (state .coefs) in
+        cond (eqb (callAnswer call state) 0) (lineScratch (longest dims) (upper a y) (solve a y) (points dims a) (call .scratch)) (call .scratch)
 
 -- what an accepted begin leaves: the samples, and a ledger of zeros
 abbrev pub begun : {A : Type 0} → List ℕ → List A → State A

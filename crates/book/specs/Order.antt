@@ -43,21 +43,21 @@ pub record Agrees {A : Type 0} (o : A) (solve : ℕ → (ℕ → A) → ℕ → 
   pub ledger-size : length (state .ledger) ≡ size dims
 
 -- the claim about a list of calls
-pub record Claim {A : Type 0} (o : A) (upper solve : ℕ → (ℕ → A) → ℕ → A) (count : ℕ) (lens : List ℕ) (grid knots : List Check) (samples : List A) (calls : List (Call A)) : Type 0 where
+pub record Claim {A : Type 0} (o : A) (solve : ℕ → (ℕ → A) → ℕ → A) (count : ℕ) (lens : List ℕ) (grid knots : List Check) (samples : List A) (calls : List (Call A)) : Type 0 where
   -- the answers are the book's, one by one
-  pub same-answers : answers count lens grid knots o upper solve calls (begun (take count lens) samples) ≡ bookAnswers (take count lens) calls []
-  pub agrees : Agrees o solve (take count lens) samples (after count lens grid knots o upper solve calls (begun (take count lens) samples)) (bookAfter (take count lens) calls [])
+  pub same-answers : answers count lens grid knots o solve calls (begun (take count lens) samples) ≡ bookAnswers (take count lens) calls []
+  pub agrees : Agrees o solve (take count lens) samples (after count lens grid knots o solve calls (begun (take count lens) samples)) (bookAfter (take count lens) calls [])
 
 -- For any solver that looks at its own line only, on axes of at least four points, and any checks of a grid that refuse with a
 -- number above 0: after an accepted begin the claim holds of every list of calls.
 abbrev pub OrderNeverShows : Type 1
-OrderNeverShows = (A : Type 0) (o : A) (upper solve : ℕ → (ℕ → A) → ℕ → A) (count : ℕ) (lens : List ℕ) (grid knots : List Check)
+OrderNeverShows = (A : Type 0) (o : A) (solve : ℕ → (ℕ → A) → ℕ → A) (count : ℕ) (lens : List ℕ) (grid knots : List Check)
     → length lens ≡ 4 → Positive grid → Positive knots
     → ((a : ℕ) → a < count → 4 ≤ points (take count lens) a → Looks (solve a) (points (take count lens) a))
     → (samples : List A) (coefs ledger scratch : ℕ)
     → beginAnswer count lens grid knots (length samples) coefs ledger scratch ≡ 0
     → (calls : List (Call A))
-    → Claim o upper solve count lens grid knots samples calls
+    → Claim o solve count lens grid knots samples calls
 
 -- Coefficients and ledger do not differ between orders: where two states agree with books that have the same lines solved, they
 -- are the same state.

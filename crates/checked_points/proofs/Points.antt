@@ -17,7 +17,8 @@ use Rattle.shape.specs.Fit.{solveLine, solveLines, fitAfter}
 use Rattle.shape.specs.Checks.{firstRefusal, anyShort, shapeAccepted}
 use Rattle.shape.specs.Sizes.{strideOf}
 use Rattle.book.specs.LineCall.{Call}
-use Rattle.book.specs.Book.{Book, allBelow, isSolved, lowerSolved, isDue, bookChecks, bookCall, bookAnswers}
+use Rattle.shape.specs.Below.{allBelow}
+use Rattle.book.specs.Book.{Book, isSolved, lowerSolved, isDue, bookChecks, bookCall, bookAnswers}
 use Rattle.interp_math.specs.Sum.{mulAdd, dot4, summed, gradientPart}
 use Rattle.multibspline.specs.Numbers.{f0, f1, f2, f3, f4}
 use Rattle.multibspline.specs.declared.saturation.Saturation.the-variants.{None, InsideLow, OutsideLow, InsideHigh, OutsideHigh}

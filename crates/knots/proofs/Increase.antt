@@ -10,12 +10,9 @@ use borrow.Author.Tests.{not-true, not-false}
 use lib.ListN.{length, getD, drop, length-drop}
 use lib.Seq.{drop-cons}
 use lib.Ieee.{Float, nan, lt}
+use Rattle.shape.proofs.Below.{and-both}
 use Rattle.knots.specs.Knots.{rises}
 use Rattle.knots.proofs.Compare.{lt-trans-float}
-
-pub and-true : (a b : Bool) → (a && b) ≡ true → (a ≡ true) × (b ≡ true)
-and-true true b h = (refl, h)
-and-true false b h = (h, cc)
 
 -- ---- the check: the knots from i - 1 on
 
@@ -48,12 +45,23 @@ module _ (ks : List Float) (i : ℕ) (some : 1 ≤ i) where
 
 -- ---- knots that rise
 
+-- knots that are each above the one before rise
+pub rises-of : (ks : List Float) → ((i : ℕ) → i + 1 < length ks → lt (getD ks i nan) (getD ks (i + 1) nan) ≡ true) → rises ks ≡ true
+unfolding rises
+rises-of [] h = refl
+rises-of (a ∷ []) h = refl
+rises-of (a ∷ b ∷ ks) h =
+    rw (h 0 (omega arith))
+    (rises-of (b ∷ ks) (λ i k.
+    let e : suc i + 1 ≡ suc (i + 1) = omega arith in
+    rw e at (h (suc i) (omega arith))))
+
 adjacent : (ks : List Float) → rises ks ≡ true → (i : ℕ) → suc i < length ks → lt (getD ks i nan) (getD ks (suc i) nan) ≡ true
 unfolding rises
 adjacent [] h i g = absurd (let q : ⊥ = omega arith in q)
 adjacent (a ∷ []) h i g = absurd (let q : ⊥ = omega arith in q)
-adjacent (a ∷ b ∷ ks) h zero g = and-true (lt a b) (rises (b ∷ ks)) h .0
-adjacent (a ∷ b ∷ ks) h (suc i) g = adjacent (b ∷ ks) (and-true (lt a b) (rises (b ∷ ks)) h .1) i (omega arith)
+adjacent (a ∷ b ∷ ks) h zero g = and-both (lt a b) (rises (b ∷ ks)) h .0
+adjacent (a ∷ b ∷ ks) h (suc i) g = adjacent (b ∷ ks) (and-both (lt a b) (rises (b ∷ ks)) h .1) i (omega arith)
 
 -- each knot is below every later one
 pub in-order : (ks : List Float) → rises ks ≡ true → (i j : ℕ) → i < j → j < length ks → lt (getD ks i nan) (getD ks j nan) ≡ true

@@ -15,10 +15,10 @@ use lib.Ieee.{Float}
 use Rattle.shape.specs.Shape.{product, size, points}
 use Rattle.shape.specs.Checks.{mostPoints}
 use Rattle.shape.specs.Usable.{Usable}
+use Rattle.shape.proofs.Below.{and-both}
 use Rattle.shape.proofs.Accepted.{axes-are, points-are}
 use Rattle.knots.specs.Knots.{rises}
 use Rattle.knots.specs.Joined.{total, knotsOf, allRise}
-use Rattle.knots.proofs.Increase.{and-true}
 
 -- ---- the axes from i on, of the first k: one more axis, and none
 
@@ -99,7 +99,7 @@ module _ (grid : List Float) (dims : List ℕ) where
   unfolding allRise
   axis-rises zero e a h = absurd (let q : ⊥ = omega arith in q)
   axis-rises (suc k) e a h =
-      let p = and-true (allRise grid dims k) (rises (knotsOf grid dims k)) e in
+      let p = and-both (allRise grid dims k) (rises (knotsOf grid dims k)) e in
       elim (eq-or-lt-of-le (let q : a ≤ k = omega arith in q)) [
         | inl q ↦ rw q (p .1)
         | inr q ↦ axis-rises k (p .0) a q

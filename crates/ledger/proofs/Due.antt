@@ -18,7 +18,8 @@ use Rattle.shape.specs.declared.answers.FirstCell.the-variants.{At, Refused}
 use Rattle.shape.proofs.Checks.{check-passes, check-passed}
 use Rattle.shape.proofs.Accepted.{refusal-append, accepted-append, usable-accepted, axes-are, points-are, stride-is, lines-are, room, in-map}
 use Rattle.shape.proofs.Found.{cell-room}
-use Rattle.book.specs.LineCall.{anyBelow, byteAbove, byteBelow, dueChecks, oneMore, bumped}
+use Rattle.shape.specs.Below.{anyBelow}
+use Rattle.book.specs.LineCall.{byteAbove, byteBelow, dueChecks, oneMore, bumped}
 use Rattle.book.specs.Due.{DueBytes}
 use Rattle.book.proofs.Bytes.{is-line, due-small, bumped-line}
 

@@ -17,9 +17,9 @@ use Rattle.shape.specs.declared.answers.Refusal.the-variants.{AxisCount, Dimens
 use Rattle.shape.specs.declared.answers.Answer.{Answer}
 use Rattle.shape.specs.declared.answers.Answer.the-variants.{Accepted, Refused}
 use Rattle.shape.proofs.Checks.{length-fails, length-passes, length-passed, scratch-fails, scratch-passes}
-use Rattle.shape.proofs.Accepted.{refusal-suc, refusal-append, prefix-passed, passed-append, accepted-append, usable-accepted, storage-is, scratch-is}
+use Rattle.shape.proofs.Accepted.{refusal-suc, refusal-append, prefix-passed, passed-append, both-passed, accepted-append, usable-accepted, storage-is, scratch-is}
 use Rattle.book.specs.LineCall.{Call, State, dueChecks, beginChecks, beginAnswer, callChecks, callAnswer}
-use Rattle.book.proofs.Answers.{Ready, both-passed}
+use Rattle.book.proofs.Answers.{Ready}
 use Rattle.ledger.specs.Ready.{readyChecks}
 
 -- ---- what an answer says

@@ -1,54 +1,29 @@
 -- Entries and tests axis by axis. Assumes nothing.
 use mathlib.Core.Path.{_≡_, refl, sym, ap, _∙_}
-use mathlib.Core.Logic.{inl, inr}
-use mathlib.Core.Bool.{Bool, true, false, cond, _||_}
+use mathlib.Core.Bool.{Bool, true, false, cond}
 use mathlib.Core.List.{List}
-use Prim.Native.Nat.{ℕ, zero, suc, _+_, _*_, _≤_, _<_}
-use native.Mathlib.Nat.{eq-or-lt-of-le, le-of-suc-le-suc, not-suc-le-zero}
-use native.Mathlib.Numerals.{add-one}
+use Prim.Native.Nat.{ℕ, _+_, _*_, _≤_, _<_}
 use native.Mathlib.Omega.{arith}
 use lib.Dec.{ltb}
 use lib.ListN.{length, take, getD}
 use lib.Seq.{length-take-le, getD-take, ext-getD}
 use lib.Ieee.{Float, nan}
 use borrow.Author.Tests.{ltb-true}
+use Rattle.shape.specs.Below.{anyBelow}
+use Rattle.shape.proofs.Below.{NoneYet, none-step, one-found}
 use Rattle.multibspline.specs.Numbers.{f0}
 use Rattle.evaluation.specs.Axes.{perAxis, inUse, query}
 use Rattle.evaluation.proofs.Outcomes.{part-at}
-use Rattle.map_spline.specs.Outside.{anyAxis}
 
 -- ---- a test of the axes in turn
 
-or-true : (b : Bool) → b || true ≡ true
-or-true true = refl
-or-true false = refl
+-- by a call that tests one axis
+module _ (test : ℕ → Bool) (n a : ℕ) (r : Bool) (h : NoneYet test n a) (e : r ≡ test a) (l : a < n) where
+  pub axis-found : r ≡ true → true ≡ anyBelow test n
+  axis-found q = one-found test n a l (sym e ∙ q)
 
-any-true : (test : ℕ → Bool) (n a : ℕ) → a < n → test a ≡ true → anyAxis test n ≡ true
-unfolding anyAxis
-any-true test zero a h e = absurd (not-suc-le-zero h)
-any-true test (suc n) a h e = elim (eq-or-lt-of-le (le-of-suc-le-suc h)) [
-  | inl q ↦ rw (← q, e) (or-true (anyAxis test a))
-  | inr q ↦ rw (any-true test n a q e)
-]
-
-pub record Testing (test : ℕ → Bool) (n a : ℕ) : Type 0 where
-  pub few : a ≤ n
-  pub none : anyAxis test a ≡ false
-
-pub Testing-start : (test : ℕ → Bool) (n : ℕ) → Testing test n 0
-unfolding anyAxis
-Testing-start test n = record { few = omega arith; none = refl }
-
-module _ (test : ℕ → Bool) (n a : ℕ) (r : Bool) (h : Testing test n a) (e : r ≡ test a) (l : a < n) where
-  pub Testing-found : r ≡ true → true ≡ anyAxis test n
-  Testing-found q = sym (any-true test n a l (sym e ∙ q))
-
-  pub Testing-step : r ≡ false → Testing test n (a + 1)
-  unfolding anyAxis
-  Testing-step q = record { few = omega arith; none = rw (add-one a, h .none, ← e, q) }
-
-pub Testing-done : (test : ℕ → Bool) (n a : ℕ) → Testing test n a → n ≤ a → false ≡ anyAxis test n
-Testing-done test n a h l = let z : a ≡ n = omega (arith, h .few) in sym (ap (anyAxis test) (sym z) ∙ h .none)
+  pub axis-passed : r ≡ false → NoneYet test n (a + 1)
+  axis-passed q = none-step test n a h l (sym e ∙ q)
 
 -- ---- one entry an axis
 

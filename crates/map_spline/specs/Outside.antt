@@ -1,10 +1,11 @@
 -- Whether a query is outside: some axis in use has an Outside place for it. Assumes nothing.
 --     count, lens    the axis count and the lengths of the axes
-use mathlib.Core.Bool.{Bool, true, false, _||_}
+use mathlib.Core.Bool.{Bool, true, false}
 use mathlib.Core.List.{List}
-use Prim.Native.Nat.{ℕ, zero, suc}
+use Prim.Native.Nat.{ℕ}
 use lib.ListN.{getD}
 use lib.Ieee.{Float, Format, nan}
+use Rattle.shape.specs.Below.{anyBelow}
 use Rattle.multibspline.specs.declared.saturation.Saturation.{Saturation}
 use Rattle.multibspline.specs.declared.saturation.Saturation.the-variants.{None, InsideLow, OutsideLow, InsideHigh, OutsideHigh}
 use Rattle.regular_weights.specs.declared.place.Loc.{Loc}
@@ -24,11 +25,6 @@ abbrev pub isOutsideLoc : Loc → Bool
 isOutsideLoc (At sat origin) = isOutside sat
 isOutsideLoc Unrepresentable = false
 
--- does one of the first n axes pass the test?
-unfoldable pub anyAxis : (ℕ → Bool) → ℕ → Bool
-anyAxis test zero = false
-anyAxis test (suc a) = anyAxis test a || test a
-
 -- axis a of a regular map, and of a rectilinear one
 unfoldable pub regularAxisOutside : Format → List ℕ → List Float → List Float → List Float → ℕ → Bool
 regularAxisOutside f lens starts steps x a =
@@ -39,7 +35,7 @@ rectilinearAxisOutside count lens grid x a = isOutside (locOn count lens grid x 
 
 -- the query
 abbrev pub regularOutside : Format → ℕ → List ℕ → List Float → List Float → List Float → Bool
-regularOutside f count lens starts steps x = anyAxis (regularAxisOutside f lens starts steps x) count
+regularOutside f count lens starts steps x = anyBelow (regularAxisOutside f lens starts steps x) count
 
 abbrev pub rectilinearOutside : ℕ → List ℕ → List Float → List Float → Bool
-rectilinearOutside count lens grid x = anyAxis (rectilinearAxisOutside count lens grid x) count
+rectilinearOutside count lens grid x = anyBelow (rectilinearAxisOutside count lens grid x) count

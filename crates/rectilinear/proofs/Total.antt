@@ -17,22 +17,11 @@ use Rattle.shape.proofs.Accepted.{prefix-passed, usable, usable-accepted, axes-
 use Rattle.shape.proofs.Checks.{check-passed, length-passed, scratch-passed}
 use Rattle.knots.specs.Knots.{rises}
 use Rattle.knots.specs.Joined.{total, knotsOf, allRise}
-use Rattle.knots.proofs.Increase.{in-order}
+use Rattle.knots.proofs.Increase.{in-order, rises-of}
 use Rattle.knots.proofs.Totals.{axis-rises, all-rise}
 use Rattle.rectilinear.specs.Fit.{rectilinearFitChecks}
 use Rattle.rectilinear.specs.Total.{Rising, FitAccepted, FitTotal}
 use Rattle.rectilinear.proofs.FitChecks.{fromGrid, after-shape, fit-passed}
-
--- knots that are each above the one before rise
-rises-of : (ks : List Float) → ((i : ℕ) → i + 1 < length ks → lt (getD ks i nan) (getD ks (i + 1) nan) ≡ true) → rises ks ≡ true
-unfolding rises
-rises-of [] h = refl
-rises-of (a ∷ []) h = refl
-rises-of (a ∷ b ∷ ks) h =
-    rw (h 0 (omega arith))
-    (rises-of (b ∷ ks) (λ i k.
-    let e : suc i + 1 ≡ suc (i + 1) = omega arith in
-    rw e at (h (suc i) (omega arith))))
 
 module _ (count : ℕ) (lens : List ℕ) (grid : List Float) (samples coefs scratch : ℕ) (four : length lens ≡ 4) where
   pub fit-accepted : firstRefusal (rectilinearFitChecks count lens grid samples coefs scratch) ≡ 0 → FitAccepted count lens grid samples coefs scratch

@@ -12,12 +12,11 @@ use lib.Ieee.{Float, Format, nan}
 use borrow.Author.Tests.{lt-ltb}
 use Rattle.shape.specs.Shape.{points}
 use Rattle.shape.specs.Sizes.{strideOf}
-use Rattle.shape.proofs.Accepted.{axes-are, points-are}
 use Rattle.knots.specs.Knots.{rises}
 use Rattle.knots.specs.Joined.{knotsOf}
 use Rattle.knots.specs.Place.{getLoc}
 use Rattle.knots.specs.declared.place.Loc.{Loc}
-use Rattle.knots.proofs.Totals.{length-knotsOf, axis-rises}
+use Rattle.knots.proofs.Totals.{part-length, part-long, axis-rises}
 use Rattle.knots.proofs.Places.{get-loc-within}
 use Rattle.rectilinear_weights.specs.Weights.{interpWeights, interpWeightDerivatives}
 use Rattle.evaluation.specs.Axes.{zeros, rows, parts, Reaches, valueFrom, gradientFrom}
@@ -29,19 +28,14 @@ use Rattle.rectilinear_map.specs.Total.{Gridded, Sound}
 -- ---- an axis of an accepted map
 
 module _ (count : ℕ) (lens : List ℕ) (grid : List Float) (four : length lens ≡ 4) (g : Gridded count lens grid) (a : ℕ) (h : a < count) where
-  pub knots-many : length (knotsOf grid (take count lens) a) ≡ getD lens a 0
-  knots-many =
-      length-knotsOf grid (take count lens) a (rw (axes-are count lens four (g .shape)) h) (g .joined)
-      ∙ points-are count lens four (g .shape) a h
-
   -- at least four knots, which rise
   pub axis-sound : {ks : List Float} → ks ≡ knotsOf grid (take count lens) a → (4 ≤ length ks) × (rises ks ≡ true)
-  axis-sound e = (rw (e, knots-many) (g .shape .four-points a h), rw e (axis-rises grid (take count lens) count (g .rising) a h))
+  axis-sound e = (rw e (part-long count lens four (g .shape) a h grid (g .joined)), rw e (axis-rises grid (take count lens) count (g .rising) a h))
 
   pub origin-room : (x : List Float) → locOn count lens grid x a .origin + 3 < getD lens a 0
   unfolding locOn
   origin-room x =
-      let n = knots-many in
+      let n = part-length count lens four (g .shape) a h grid (g .joined) in
       let long : 4 ≤ getD lens a 0 = g .shape .four-points a h in
       let w = get-loc-within (knotsOf grid (take count lens) a) (getD x a nan) (rw n long) in
       omega (arith, w .origin-most, n)

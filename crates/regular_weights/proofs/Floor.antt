@@ -9,6 +9,8 @@ use lib.Dec.{T, ltb, leb, eqb, ltb→lt, lt→ltb, lit<, lit≤}
 use lib.IntN.{ℤ, pos, negsuc, negℤ, predℤ, natAbs}
 use lib.Ieee.{Float, nan, inf, fin, Format, binary32, binary64, prec, up, down, lt, le, eq, toUnsigned, fits}
 use lib.Ieee.Fits.{down-pos, and-l, and-r}
+use Rattle.shape.proofs.Lengths.{or-false}
+use Rattle.shape.proofs.Below.{and-both}
 use Rattle.multibspline.specs.Numbers.{f0, f-1}
 use Rattle.multibspline.specs.declared.saturation.Saturation.the-variants.{OutsideLow}
 use Rattle.regular_weights.specs.Place.{cellAt, locOf}
@@ -29,19 +31,11 @@ t≠f p = let z : _≡_ {A = ℕ} 0 1 = cc in omega arith
 f≠t : false ≡ true → ⊥
 f≠t p = t≠f (sym p)
 
-and-true : (x y : Bool) → (x && y) ≡ true → x ≡ true
-and-true true y p = refl
-and-true false y p = p
-
-or-false : (x y : Bool) → (x || y) ≡ false → x ≡ false
-or-false true y p = p
-or-false false y p = refl
-
 -- ---- in whole numbers: a is the significand times the power of two above the line, b the one below it
 
 -- of the values with the sign, only zero is not below zero
 is-zero : (a b : ℕ) → (eqb (0 * b) (a * 1) && (false || eqb (0 * b) 0)) ≡ true → a ≡ 0
-is-zero a b p = omega (arith, eqb-true (0 * b) (a * 1) (and-true (eqb (0 * b) (a * 1)) _ p))
+is-zero a b p = omega (arith, eqb-true (0 * b) (a * 1) (and-both (eqb (0 * b) (a * 1)) _ p .0))
 
 not-zero : (a b : ℕ) → (eqb (0 * b) (a * 1) && (false || eqb (0 * b) 0)) ≡ false → 0 < a
 not-zero zero b p = absurd (t≠f (sym (rw (zero-mul b)) ∙ p))
@@ -50,7 +44,7 @@ not-zero (suc a) b p = omega arith
 -- no value without the sign is below zero
 not-negative : (a b : ℕ) → (ltb (0 * b) (a * 1) || (eqb (0 * b) (a * 1) && true)) ≡ false → ⊥
 not-negative zero b p = t≠f (sym (rw (zero-mul b)) ∙ p)
-not-negative (suc a) b p = let h = ltb-false (0 * b) (suc a * 1) (or-false (ltb (0 * b) (suc a * 1)) _ p) in omega arith
+not-negative (suc a) b p = let h = ltb-false (0 * b) (suc a * 1) (or-false (ltb (0 * b) (suc a * 1)) _ p .0) in omega arith
 
 ceil-zero : (a b : ℕ) → 0 < b → a ≡ 0 → (a + (b - 1)) / b ≡ 0
 ceil-zero a b B h = let r : (a + (b - 1)) / b < 1 = div-lt-iff-lt-mul B .1 (omega arith) in omega arith

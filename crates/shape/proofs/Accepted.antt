@@ -88,6 +88,9 @@ prefix-passed xs ys e = go (firstRefusal xs) refl
     go zero h = refl
     go (suc n) h = absurd (omega (arith, e, refused-append xs ys n h))
 
+pub both-passed : (xs ys : List Check) → Positive xs → firstRefusal (xs ++ ys) ≡ 0 → (firstRefusal xs ≡ 0) × (firstRefusal ys ≡ 0)
+both-passed xs ys p e = let q = prefix-passed xs ys e in (q, sym (passed-append xs ys p q) ∙ e)
+
 -- ---- an accepted shape
 
 and-false : (x y : Bool) → y ≡ false → x && y ≡ false

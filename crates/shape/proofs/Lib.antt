@@ -1,3 +1,4 @@
+pub mod Below
 pub mod Lengths
 pub mod Cells
 pub mod Scratch

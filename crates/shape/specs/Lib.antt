@@ -1,4 +1,5 @@
 pub mod Shape
+pub mod Below
 pub mod Places
 pub mod Cells
 pub mod Fit

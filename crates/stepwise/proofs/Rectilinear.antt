@@ -16,7 +16,7 @@ use Rattle.knots.specs.Joined.{total, knotsOf, allRise}
 use Rattle.knots.specs.Checks.{gridCheck, knotsCheck}
 use Rattle.knots.proofs.Totals.{length-knotsOf}
 use Rattle.rectilinear_weights.specs.Ghosts.{lowGhostCoeffs, highGhostCoeffs}
-use Rattle.rectilinear.specs.Fit.{solve, upper}
+use Rattle.rectilinear.specs.Fit.{solve}
 use Rattle.rectilinear.proofs.Rows.{looks-coefficient}
 use Rattle.book.proofs.Answers.{begin-passed}
 use Rattle.book.proofs.Order.{order-never-shows}
@@ -66,5 +66,5 @@ rectilinear-order-never-shows f count lens four grid samples coefs ledger scratc
     let p = begin-passed count lens (gridCheck dims grid) (knotsCheck dims grid) (grid-positive dims grid) (knots-positive dims grid) (length samples) coefs ledger scratch e in
     let u = usable count lens four (p .ready .shape-passed) in
     let joined = joined-is dims grid (p .ready .grid-passed) in
-    order-never-shows Float nan (upper f grid dims) (solve f grid dims) count lens (gridCheck dims grid) (knotsCheck dims grid) four (grid-positive dims grid) (knots-positive dims grid)
+    order-never-shows Float nan (solve f grid dims) count lens (gridCheck dims grid) (knotsCheck dims grid) four (grid-positive dims grid) (knots-positive dims grid)
     (λ a ha long. looks f grid dims a (rw (axes-are count lens four u) ha) joined long) samples coefs ledger scratch e calls

@@ -103,7 +103,7 @@ module _ (count : ℕ) (lens : List ℕ) (grid knots : List Check) {A : Type 0} 
     unfolding callChecks
     answer-same = rw same
 
-    line-same : lineCall count lens grid knots o upper solve (record { axis = a; line = l; scratch = s }) state ≡ lineCall count lens grid knots o upper solve (record { axis = a; line = l; scratch = t }) state
+    line-same : lineCall count lens grid knots o solve (record { axis = a; line = l; scratch = s }) state ≡ lineCall count lens grid knots o solve (record { axis = a; line = l; scratch = t }) state
     unfolding lineCall
     line-same = rw answer-same
 
@@ -115,10 +115,10 @@ module _ (count : ℕ) (lens : List ℕ) (grid knots : List Check) {A : Type 0} 
     pub same-ledger : length (state .ledger) ≡ length (state₀ .ledger)
     pub same-scratch : length scratch ≡ length scratch₀
     pub same-told : length told ≡ length told₀
-    pub left : after count lens grid knots o upper solve (taskList (drop i axes) (drop i lines) scratch₀) state ≡ after count lens grid knots o upper solve (taskList axes lines scratch₀) state₀
+    pub left : after count lens grid knots o solve (taskList (drop i axes) (drop i lines) scratch₀) state ≡ after count lens grid knots o solve (taskList axes lines scratch₀) state₀
     pub scratch-left : taskScratch count lens grid knots o upper solve (drop i axes) (drop i lines) state scratch ≡ taskScratch count lens grid knots o upper solve axes lines state₀ scratch₀
-    pub told-left : take i told ++ answers count lens grid knots o upper solve (taskList (drop i axes) (drop i lines) scratch₀) state
-        ≡ answers count lens grid knots o upper solve (taskList axes lines scratch₀) state₀
+    pub told-left : take i told ++ answers count lens grid knots o solve (taskList (drop i axes) (drop i lines) scratch₀) state
+        ≡ answers count lens grid knots o solve (taskList axes lines scratch₀) state₀
 
   module _ {axes lines : List ℕ} {state₀ : State A} {scratch₀ : List A} {told₀ : List ℕ} where
     pub run-start : RunTo axes lines state₀ scratch₀ told₀ state₀ scratch₀ told₀ 0
@@ -135,15 +135,15 @@ module _ (count : ℕ) (lens : List ℕ) (grid knots : List Check) {A : Type 0} 
         let call : Call A = record { axis = a; line = l; scratch = scratch } in
         let da : drop i axes ≡ a ∷ drop (suc i) axes = drop-cons axes i 0 h in
         let dl : drop i lines ≡ l ∷ drop (suc i) lines = drop-cons lines i 0 (omega arith) in
-        let st : state′ ≡ lineCall count lens grid knots o upper solve (record { axis = a; line = l; scratch = scratch₀ }) state = one .leaves ∙ line-same a l scratch scratch₀ (w .same-scratch) state in
+        let st : state′ ≡ lineCall count lens grid knots o solve (record { axis = a; line = l; scratch = scratch₀ }) state = one .leaves ∙ line-same a l scratch scratch₀ (w .same-scratch) state in
         let tk : take (suc i) told′ ≡ take i told ++ (callAnswer count lens grid knots (record { axis = a; line = l; scratch = scratch₀ }) state ∷ []) =
         ap (take (suc i)) (one .tells ∙ ap (set told i) (answer-same a l scratch scratch₀ (w .same-scratch) state))
         ∙ take-suc-set told i _ (omega (arith, w .same-told)) in
         record {
           most = omega arith;
-          same-coefs = ap (λ (s : State A). length (s .coefs)) (one .leaves) ∙ length-coefs count lens grid knots o upper solve call state ∙ w .same-coefs;
-          same-ledger = ap (λ (s : State A). length (s .ledger)) (one .leaves) ∙ length-ledger count lens grid knots o upper solve call state ∙ w .same-ledger;
-          same-scratch = ap length (one .scratch-after) ∙ length-call-scratch count lens grid knots o upper solve call state ∙ w .same-scratch;
+          same-coefs = ap (λ (s : State A). length (s .coefs)) (one .leaves) ∙ length-coefs count lens grid knots o solve call state ∙ w .same-coefs;
+          same-ledger = ap (λ (s : State A). length (s .ledger)) (one .leaves) ∙ length-ledger count lens grid knots o solve call state ∙ w .same-ledger;
+          same-scratch = ap length (one .scratch-after) ∙ length-call-scratch count lens grid knots o solve call state upper ∙ w .same-scratch;
           same-told = ap length (one .tells) ∙ length-set told i _ ∙ w .same-told;
           left = rw (add-one i, st) (rw (da, dl) at (w .left));
           scratch-left = rw (add-one i, one .leaves, one .scratch-after) (rw (da, dl) at (w .scratch-left));
@@ -205,18 +205,18 @@ module _ {count : ℕ} {lens : List ℕ} {grid knots : List Check} (pg : Positiv
     pub ran-accepted : y ≡ Accepted → {coefs₁ scratch′ : List A} {ledger₁ told′ : List ℕ} {state′ : State A}
         → coefs₁ ≡ samples → ledger₁ ≡ replicate (length (state .ledger)) 0
         → ListRan count lens grid knots o upper solve axes lines (record { coefs = coefs₁; ledger = ledger₁ }) scratch state′ scratch′ told′
-        → Claim o upper solve count lens grid knots samples (taskList axes lines scratch)
+        → Claim o solve count lens grid knots samples (taskList axes lines scratch)
         → Ran count lens grid knots o upper solve samples axes lines state scratch told 0 state′ scratch′ told′
     ran-accepted is₂ {state′ = state′} ec el w claim =
         let ok = is-accepted is e in
         let len = begin-passed count lens grid knots pg pk (length samples) (length (state .coefs)) (length (state .ledger)) (length scratch) ok .ledger-size in
         let from = begun-is (take count lens) (length (state .ledger)) ec el len in
-        let leaves : state′ ≡ after count lens grid knots o upper solve (taskList axes lines scratch) (begun (take count lens) samples) =
-        w .leaves ∙ ap (after count lens grid knots o upper solve (taskList axes lines scratch)) from in
+        let leaves : state′ ≡ after count lens grid knots o solve (taskList axes lines scratch) (begun (take count lens) samples) =
+        w .leaves ∙ ap (after count lens grid knots o solve (taskList axes lines scratch)) from in
         record {
           answered = list-lengths count lens grid knots pg pk (length samples) (length (state .coefs)) (length (state .ledger)) (length scratch) (length axes) (length lines) (length told) ok (sym (is-accepted is₂ e₂));
           leaves = leaves;
           scratch-after = w .scratch-after ∙ ap (λ (s : State A). taskScratch count lens grid knots o upper solve axes lines s scratch) from;
-          tells = w .tells ∙ ap (answers count lens grid knots o upper solve (taskList axes lines scratch)) from ∙ claim .same-answers;
+          tells = w .tells ∙ ap (answers count lens grid knots o solve (taskList axes lines scratch)) from ∙ claim .same-answers;
           agrees = λ z. rw leaves (claim .agrees);
         }

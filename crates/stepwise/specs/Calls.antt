@@ -37,8 +37,8 @@ module _ (count : ℕ) (lens : List ℕ) (grid knots : List Check) where
 
     pub record LineCalled (call : Call A) (state : State A) (answer : ℕ) (state′ : State A) (scratch′ : List A) : Type 0 where
       pub answered : answer ≡ callAnswer count lens grid knots call state
-      pub leaves : state′ ≡ lineCall count lens grid knots o upper solve call state
-      pub scratch-after : scratch′ ≡ callScratch count lens grid knots o upper solve call state
+      pub leaves : state′ ≡ lineCall count lens grid knots o solve call state
+      pub scratch-after : scratch′ ≡ callScratch count lens grid knots o solve upper call state
 
     -- ---- a list of line calls
 
@@ -48,19 +48,19 @@ module _ (count : ℕ) (lens : List ℕ) (grid knots : List Check) where
     taskScratch (a ∷ axes) [] state scratch = scratch
     taskScratch (a ∷ axes) (l ∷ lines) state scratch =
         let call : Call A = record { axis = a; line = l; scratch = scratch } in
-        taskScratch axes lines (lineCall count lens grid knots o upper solve call state) (callScratch count lens grid knots o upper solve call state)
+        taskScratch axes lines (lineCall count lens grid knots o solve call state) (callScratch count lens grid knots o solve upper call state)
 
     -- call i of a list, its answer put into byte i
     pub record OneRan (call : Call A) (i : ℕ) (state : State A) (told : List ℕ) (state′ : State A) (scratch′ : List A) (told′ : List ℕ) : Type 0 where
-      pub leaves : state′ ≡ lineCall count lens grid knots o upper solve call state
-      pub scratch-after : scratch′ ≡ callScratch count lens grid knots o upper solve call state
+      pub leaves : state′ ≡ lineCall count lens grid knots o solve call state
+      pub scratch-after : scratch′ ≡ callScratch count lens grid knots o solve upper call state
       pub tells : told′ ≡ set told i (callAnswer count lens grid knots call state)
 
     -- the whole list, from any state
     pub record ListRan (axes lines : List ℕ) (state : State A) (scratch : List A) (state′ : State A) (scratch′ : List A) (told′ : List ℕ) : Type 0 where
-      pub leaves : state′ ≡ after count lens grid knots o upper solve (taskList axes lines scratch) state
+      pub leaves : state′ ≡ after count lens grid knots o solve (taskList axes lines scratch) state
       pub scratch-after : scratch′ ≡ taskScratch axes lines state scratch
-      pub tells : told′ ≡ answers count lens grid knots o upper solve (taskList axes lines scratch) state
+      pub tells : told′ ≡ answers count lens grid knots o solve (taskList axes lines scratch) state
 
     -- Begin and then the whole list: accepted, the answers are the book's, one by one, and coefficients and ledger are what
     -- demand 3 claims; refused, nothing is changed.
@@ -68,7 +68,7 @@ module _ (count : ℕ) (lens : List ℕ) (grid knots : List Check) where
       pub answered :
           answer
           ≡ firstRefusal (listChecks (length samples) (length (state .coefs)) (length (state .ledger)) (length scratch) (length axes) (length lines) (length told))
-      pub leaves : state′ ≡ cond (eqb answer 0) (after count lens grid knots o upper solve (taskList axes lines scratch) (begun (take count lens) samples)) state
+      pub leaves : state′ ≡ cond (eqb answer 0) (after count lens grid knots o solve (taskList axes lines scratch) (begun (take count lens) samples)) state
       pub scratch-after : scratch′ ≡ cond (eqb answer 0) (taskScratch axes lines (begun (take count lens) samples) scratch) scratch
       pub tells : told′ ≡ cond (eqb answer 0) (bookAnswers (take count lens) (taskList axes lines scratch) []) told
       pub agrees : answer ≡ 0 → Agrees o solve (take count lens) samples state′ (bookAfter (take count lens) (taskList axes lines scratch) [])

@@ -37,4 +37,4 @@ RectilinearOrderNeverShows = (f : Format) (count : ℕ) (lens : List ℕ) → le
     → (grid samples : List Float) (coefs ledger scratch : ℕ)
     → beginAnswer count lens (gridCheck (take count lens) grid) (knotsCheck (take count lens) grid) (length samples) coefs ledger scratch ≡ 0
     → (calls : List (Call Float))
-    → Claim nan (upper f grid (take count lens)) (solve f grid (take count lens)) count lens (gridCheck (take count lens) grid) (knotsCheck (take count lens) grid) samples calls
+    → Claim nan (solve f grid (take count lens)) count lens (gridCheck (take count lens) grid) (knotsCheck (take count lens) grid) samples calls

@@ -34,4 +34,4 @@ RegularOrderNeverShows = (f : Format) (count : ℕ) (lens : List ℕ) → length
     → (samples : List Float) (coefs ledger scratch : ℕ)
     → beginAnswer count lens [] [] (length samples) coefs ledger scratch ≡ 0
     → (calls : List (Call Float))
-    → Claim nan (upper f (take count lens)) (solve f (take count lens)) count lens [] [] samples calls
+    → Claim nan (solve f (take count lens)) count lens [] [] samples calls

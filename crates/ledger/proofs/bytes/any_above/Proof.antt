@@ -3,7 +3,7 @@ use native.Mathlib.Omega.{arith}
 use denote.Ref.{now}
 use borrow.Author.Needs.{needs}
 use Rattle.book.specs.LineCall.{byteAbove}
-use Rattle.book.proofs.Tests.{NoneYet, none-start, none-done}
+use Rattle.shape.proofs.Below.{NoneYet, none-start, none-done}
 use Rattle.book.proofs.Bytes.{above-step, above-found}
 use Rattle.ledger.proofs.bytes.any_above.Statement.{statement}
 use Rattle.ledger.proofs.bytes.any_above.Tie as tie

@@ -3,7 +3,7 @@ use native.Mathlib.Omega.{arith}
 use denote.Ref.{now}
 use borrow.Author.Needs.{needs}
 use Rattle.book.specs.LineCall.{byteBelow}
-use Rattle.book.proofs.Tests.{NoneYet, none-start, none-done}
+use Rattle.shape.proofs.Below.{NoneYet, none-start, none-done}
 use Rattle.book.proofs.Bytes.{below-step, below-found}
 use Rattle.ledger.proofs.bytes.any_below.Statement.{statement}
 use Rattle.ledger.proofs.bytes.any_below.Tie as tie

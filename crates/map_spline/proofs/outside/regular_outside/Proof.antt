@@ -1,4 +1,5 @@
-use Rattle.map_spline.proofs.Axes.{Testing, Testing-start, Testing-found, Testing-step, Testing-done}
+use Rattle.shape.proofs.Below.{NoneYet, none-start, none-done}
+use Rattle.map_spline.proofs.Axes.{axis-found, axis-passed}
 use Rattle.map_spline.specs.Outside.{regularAxisOutside}
 use lib.Ieee.{binary64}
 use Prim.Native.Nat.{_-_}
@@ -10,13 +11,13 @@ use Rattle.map_spline.proofs.outside.regular_outside.Lts as lts
 use Rattle.map_spline.proofs.outside.regular_axis.Reads as regular-axis-reads
 
 abbrev Inv-loop : tie.InvT-loop
-Inv-loop count x dims starts steps a₀ a = Testing (regularAxisOutside binary64 dims starts steps x) count a
+Inv-loop count x dims starts steps a₀ a = NoneYet (regularAxisOutside binary64 dims starts steps x) count a
 
 abbrev μ-loop : tie.MeasureT-loop
 μ-loop count x dims starts steps a₀ a = count - a
 
 loop-holds : tie.Need-loop-holds Inv-loop μ-loop
-loop-holds c = Testing-start _ _
+loop-holds c = none-start _ _
 
 mul-regular-axis : tie.Need-mul-regular-axis Inv-loop μ-loop
 mul-regular-axis c = omega arith
@@ -47,7 +48,7 @@ regular-axis-requires c κs = c .before .before .before .before .pre .0 .four-po
 
 returns : tie.Need-returns Inv-loop μ-loop
 unfolding regularAxisOutside
-returns c = search Testing-found
+returns c = search axis-found
 
 add-a : tie.Need-add-a Inv-loop μ-loop
 add-a c = omega arith
@@ -57,10 +58,10 @@ loop-less c = omega arith
 
 loop-again : tie.Need-loop-again Inv-loop μ-loop
 unfolding regularAxisOutside
-loop-again c = search Testing-step
+loop-again c = search axis-passed
 
 returns-2 : tie.Need-returns-2 Inv-loop μ-loop
-returns-2 c = search Testing-done
+returns-2 c = search none-done
 
 pub regular-outside-spec : {M : Type 1} → statement M
 regular-outside-spec =

@@ -8,8 +8,7 @@ use native.Mathlib.Numerals.{add-one}
 use native.Mathlib.Omega.{arith}
 use lib.Dec.{ltb}
 use borrow.Author.Tests.{ltb-true, ltb-false, lt-ltb}
-use Rattle.book.specs.LineCall.{anyBelow}
-use Rattle.book.specs.Book.{allBelow, countBelow, sumBelow}
+use Rattle.shape.specs.Below.{anyBelow, allBelow, howMany, sumBelow}
 
 -- ---- truth values
 
@@ -140,41 +139,41 @@ all-ltb n m = go (ltb m n) refl
 
 -- ---- at how many numbers below n
 
-pub count-ext : (p q : ℕ → Bool) (n : ℕ) → ((i : ℕ) → i < n → p i ≡ q i) → countBelow p n ≡ countBelow q n
-unfolding countBelow
+pub count-ext : (p q : ℕ → Bool) (n : ℕ) → ((i : ℕ) → i < n → p i ≡ q i) → howMany p n ≡ howMany q n
+unfolding howMany
 count-ext p q zero f = refl
 count-ext p q (suc n) f = rw (f n (omega arith), count-ext p q n (λ i h. f i (omega arith)))
 
-pub count-ltb : (n m : ℕ) → countBelow (λ i. ltb i m) n ≡ min n m
-unfolding countBelow
+pub count-ltb : (n m : ℕ) → howMany (λ i. ltb i m) n ≡ min n m
+unfolding howMany
 count-ltb zero m = omega arith
 count-ltb (suc n) m = go (ltb n m) refl (count-ltb n m)
   where
-    go : (t : Bool) → ltb n m ≡ t → countBelow (λ i. ltb i m) n ≡ min n m → cond t 1 0 + countBelow (λ i. ltb i m) n ≡ min (suc n) m
+    go : (t : Bool) → ltb n m ≡ t → howMany (λ i. ltb i m) n ≡ min n m → cond t 1 0 + howMany (λ i. ltb i m) n ≡ min (suc n) m
     go true e ih = let h : n < m = ltb-true n m e in omega arith
     go false e ih = let h : m ≤ n = ltb-false n m e in omega arith
 
 -- it passes at n of them exactly where it passes at all of them
-pub count-le : (test : ℕ → Bool) (n : ℕ) → countBelow test n ≤ n
-unfolding countBelow
+pub count-le : (test : ℕ → Bool) (n : ℕ) → howMany test n ≤ n
+unfolding howMany
 count-le test zero = omega arith
 count-le test (suc n) = go (test n) (count-le test n)
   where
-    go : (t : Bool) → countBelow test n ≤ n → cond t 1 0 + countBelow test n ≤ suc n
+    go : (t : Bool) → howMany test n ≤ n → cond t 1 0 + howMany test n ≤ suc n
     go true h = omega arith
     go false h = omega arith
 
-pub count-all : (test : ℕ → Bool) (n : ℕ) → ((i : ℕ) → i < n → test i ≡ true) → countBelow test n ≡ n
-unfolding countBelow
+pub count-all : (test : ℕ → Bool) (n : ℕ) → ((i : ℕ) → i < n → test i ≡ true) → howMany test n ≡ n
+unfolding howMany
 count-all test zero f = refl
 count-all test (suc n) f = rw (f n (omega arith)) (omega (arith, count-all test n (λ i h. f i (omega arith))))
 
-pub count-full : (test : ℕ → Bool) (n : ℕ) → countBelow test n ≡ n → (i : ℕ) → i < n → test i ≡ true
-unfolding countBelow
+pub count-full : (test : ℕ → Bool) (n : ℕ) → howMany test n ≡ n → (i : ℕ) → i < n → test i ≡ true
+unfolding howMany
 count-full test zero e i h = absurd (not-suc-le-zero h)
 count-full test (suc n) e i h = go (test n) refl e (eq-or-lt-of-le (le-of-suc-le-suc h)) (λ r k. count-full test n r i k)
   where
-    go : (t : Bool) → test n ≡ t → cond t 1 0 + countBelow test n ≡ suc n → (i ≡ n) ⊎ (i < n) → (countBelow test n ≡ n → i < n → test i ≡ true) → test i ≡ true
+    go : (t : Bool) → test n ≡ t → cond t 1 0 + howMany test n ≡ suc n → (i ≡ n) ⊎ (i < n) → (howMany test n ≡ n → i < n → test i ≡ true) → test i ≡ true
     go false r k j ih = absurd (omega (arith, count-le test n, k))
     go true r k (inl q) ih = rw q r
     go true r k (inr l) ih = ih (omega arith) l
