@@ -20,8 +20,26 @@ use Rattle.knots.specs.Joined.{total, allRise}
 use Rattle.knots.specs.Checks.{gridCheck, knotsCheck}
 use Rattle.rectilinear.specs.Fit.{rectilinearFitChecks}
 use Rattle.rectilinear.proofs.Total.{fit-range, accepted-rise}
-use Rattle.rectilinear_map.specs.Eval.{mapChecks, mapAnswer}
+use Rattle.rectilinear_map.specs.Eval.{gridAnswer, mapChecks, mapAnswer}
 use Rattle.rectilinear_map.specs.Total.{Gridded, Sound}
+
+-- ---- from a grid alone
+
+module _ (count : ℕ) (lens : List ℕ) (grid : List Float) where
+  pub grid-shape : {x : Answer} {r : Refusal} → x ≡ Refused r → answerNumber x ≡ firstRefusal (shapeChecks count lens) → refusalNumber r ≡ gridAnswer count lens grid
+  unfolding gridAnswer
+  grid-shape {x} {r} told e = refusal-append r (shapeChecks count lens) (gridCheck (take count lens) grid) (sym (ap answerNumber told) ∙ e)
+
+  module _ (ok : firstRefusal (shapeChecks count lens) ≡ 0) where
+    pub grid-length : (length grid ≡ total (take count lens) → ⊥) → _≡_ {A = ℕ} 2 (gridAnswer count lens grid)
+    unfolding gridAnswer
+    grid-length h = length-fails [] (total (take count lens)) (length grid) h ∙ sym (accepted-append count lens ok (gridCheck (take count lens) grid))
+
+    pub grid-passed : length grid ≡ total (take count lens) → _≡_ {A = ℕ} 0 (gridAnswer count lens grid)
+    unfolding gridAnswer firstRefusal
+    grid-passed h = sym (accepted-append count lens ok (gridCheck (take count lens) grid) ∙ length-passes [] (total (take count lens)) (length grid) h)
+
+-- ---- a map
 
 pub map-numbered : (count : ℕ) (lens : List ℕ) (grid : List Float) (coefs : ℕ) → Positive (mapChecks count lens grid coefs)
 map-numbered count lens grid coefs = (omega arith, (omega arith, (omega arith, (omega arith, (omega arith, (omega arith, tt))))))

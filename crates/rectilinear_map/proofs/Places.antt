@@ -12,8 +12,9 @@ use lib.Ieee.{Float, Format, nan}
 use borrow.Author.Tests.{lt-ltb}
 use Rattle.shape.specs.Shape.{points}
 use Rattle.shape.specs.Sizes.{strideOf}
+use Rattle.shape.specs.Usable.{Usable}
 use Rattle.knots.specs.Knots.{rises}
-use Rattle.knots.specs.Joined.{knotsOf}
+use Rattle.knots.specs.Joined.{knotsOf, total}
 use Rattle.knots.specs.Place.{getLoc}
 use Rattle.knots.specs.declared.place.Loc.{Loc}
 use Rattle.knots.proofs.Totals.{part-length, part-long, axis-rises}
@@ -27,10 +28,14 @@ use Rattle.rectilinear_map.specs.Total.{Gridded, Sound}
 
 -- ---- an axis of an accepted map
 
+module _ (count : ℕ) (lens : List ℕ) (grid : List Float) (four : length lens ≡ 4) (u : Usable count lens) (joined : length grid ≡ total (take count lens)) (a : ℕ) (h : a < count) where
+  pub four-knots : {ks : List Float} → ks ≡ knotsOf grid (take count lens) a → 4 ≤ length ks
+  four-knots e = rw e (part-long count lens four u a h grid joined)
+
 module _ (count : ℕ) (lens : List ℕ) (grid : List Float) (four : length lens ≡ 4) (g : Gridded count lens grid) (a : ℕ) (h : a < count) where
   -- at least four knots, which rise
   pub axis-sound : {ks : List Float} → ks ≡ knotsOf grid (take count lens) a → (4 ≤ length ks) × (rises ks ≡ true)
-  axis-sound e = (rw e (part-long count lens four (g .shape) a h grid (g .joined)), rw e (axis-rises grid (take count lens) count (g .rising) a h))
+  axis-sound e = (four-knots count lens grid four (g .shape) (g .joined) a h e, rw e (axis-rises grid (take count lens) count (g .rising) a h))
 
   pub origin-room : (x : List Float) → locOn count lens grid x a .origin + 3 < getD lens a 0
   unfolding locOn

@@ -53,6 +53,10 @@ unfoldable pub partAt : Format → RectilinearMap → List Float → List Float 
 partAt f m grid coefs x k =
     gradientFrom f (m .count) (m .lens) coefs (rows (m .count) (weightsOn f m grid x)) (rows (m .count) (slopesOn f m grid x)) (firstOn (m .count) (m .lens) grid x (m .count)) k
 
+-- building from a grid alone: the record, the joined grid's length
+unfoldable pub gridAnswer : ℕ → List ℕ → List Float → ℕ
+gridAnswer count lens grid = firstRefusal (shapeChecks count lens ++ gridCheck (take count lens) grid)
+
 -- building, and every evaluation: the record, the joined grid's length, that of the coefficients, the knots
 abbrev pub mapChecks : ℕ → List ℕ → List Float → ℕ → List Check
 mapChecks count lens grid coefs =

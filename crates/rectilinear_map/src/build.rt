@@ -8,12 +8,12 @@ ghost use lib.ListN.{length, take};
 ghost use lib.Ieee.{binary64};
 ghost use Rattle.shape.specs.Checks.{firstRefusal};
 ghost use Rattle.shape.specs.Refusal.{answerNumber, refusalNumber};
-ghost use Rattle.knots.specs.Joined.{knotsOf};
+ghost use Rattle.shape.specs.Usable.{Usable};
+ghost use Rattle.knots.specs.Joined.{knotsOf, total};
 ghost use Rattle.rectilinear_weights.specs.Ghosts.{ghostNumbers, lowGhostCoeffs, highGhostCoeffs};
 ghost use Rattle.rectilinear.specs.Fit.{rectilinearFitChecks, RectilinearFitted};
 ghost use Rattle.rectilinear_map.specs.Map.{RectilinearMap, mapOf, ghosts, noGhost, lowGhosts, highGhosts, made, blank, RectilinearBuilt};
-ghost use Rattle.rectilinear_map.specs.Eval.{mapAnswer};
-ghost use Rattle.rectilinear_map.specs.Total.{Gridded};
+ghost use Rattle.rectilinear_map.specs.Eval.{gridAnswer, mapAnswer};
 use crate::record::Built;
 use crate::record::MultiBsplineRectilinear;
 use evaluation::used_lens;
@@ -65,7 +65,7 @@ pub fn no_ghosts() -> [Ghost; 4]
 
 // The ghost numbers of the low end of axis a, or zeros where it is not in use.
 fn low_on(count: usize, dims: [usize; 4], grid: &[f64], a: usize) -> Ghost
-    requires { ⌜ Gridded count dims (now grid) × (a < 4) ⌝ }
+    requires { ⌜ Usable count dims × (length (now grid) ≡ total (take count dims)) × (a < 4) ⌝ }
     ensures { λ r. ⌜ ghostNumbers r ≡ cond (ltb a count) (lowGhostCoeffs binary64 (knotsOf (now (grid .entry)) (take count dims) a)) noGhost ⌝ }
 {
     if count <= a {
@@ -76,7 +76,7 @@ fn low_on(count: usize, dims: [usize; 4], grid: &[f64], a: usize) -> Ghost
 
 // Those of the high end.
 fn high_on(count: usize, dims: [usize; 4], grid: &[f64], a: usize) -> Ghost
-    requires { ⌜ Gridded count dims (now grid) × (a < 4) ⌝ }
+    requires { ⌜ Usable count dims × (length (now grid) ≡ total (take count dims)) × (a < 4) ⌝ }
     ensures { λ r. ⌜ ghostNumbers r ≡ cond (ltb a count) (highGhostCoeffs binary64 (knotsOf (now (grid .entry)) (take count dims) a)) noGhost ⌝ }
 {
     if count <= a {
@@ -86,7 +86,7 @@ fn high_on(count: usize, dims: [usize; 4], grid: &[f64], a: usize) -> Ghost
 }
 
 fn low_ghosts(count: usize, dims: [usize; 4], grid: &[f64]) -> [Ghost; 4]
-    requires { ⌜ Gridded count dims (now grid) ⌝ }
+    requires { ⌜ Usable count dims × (length (now grid) ≡ total (take count dims)) ⌝ }
     ensures { λ r. ⌜ ghosts r ≡ lowGhosts binary64 count dims (now (grid .entry)) ⌝ }
 {
     [
@@ -98,7 +98,7 @@ fn low_ghosts(count: usize, dims: [usize; 4], grid: &[f64]) -> [Ghost; 4]
 }
 
 fn high_ghosts(count: usize, dims: [usize; 4], grid: &[f64]) -> [Ghost; 4]
-    requires { ⌜ Gridded count dims (now grid) ⌝ }
+    requires { ⌜ Usable count dims × (length (now grid) ≡ total (take count dims)) ⌝ }
     ensures { λ r. ⌜ ghosts r ≡ highGhosts binary64 count dims (now (grid .entry)) ⌝ }
 {
     [
@@ -137,7 +137,7 @@ fn refused(refusal: Refusal) -> Built
 
 // An accepted map: entries of axes not in use are zero.
 fn accepted(count: usize, dims: [usize; 4], grid: &[f64], linear: bool) -> Built
-    requires { ⌜ Gridded count dims (now grid) ⌝ }
+    requires { ⌜ Usable count dims × (length (now grid) ≡ total (take count dims)) ⌝ }
     ensures { λ r. ⌜ (answerNumber (r .answer) ≡ 0) × (mapOf (r .map) ≡ made binary64 count dims (now (grid .entry)) linear) ⌝ }
 {
     let low = low_ghosts(count, dims, grid);
@@ -161,6 +161,20 @@ pub fn build(count: usize, dims: [usize; 4], grid: &[f64], linear: bool, coeffs:
 {
     if let Answer::Refused(refusal) = check_map(count, dims, grid, coeffs) {
         return refused(refusal);
+    }
+    accepted(count, dims, grid, linear)
+}
+
+// From the grid alone; the knots are left to the calls that evaluate the map.
+pub fn of_grid(count: usize, dims: [usize; 4], grid: &[f64], linear: bool) -> Built
+    ensures { λ r. ⌜ RectilinearBuilt binary64 (gridAnswer count dims (now (grid .entry))) count dims (now (grid .entry)) linear r ⌝ }
+{
+    let shape = Shape { count, dims };
+    if let Answer::Refused(refusal) = shape.check() {
+        return refused(refusal);
+    }
+    if grid.len() != grid_len(count, dims) {
+        return refused(Refusal::DimensionMismatch);
     }
     accepted(count, dims, grid, linear)
 }

@@ -9,7 +9,7 @@ ghost use Rattle.rectilinear.specs.Fit.{rectilinearFitChecks, RectilinearFitted
 ghost use Rattle.evaluation.specs.Spline.{OneValue, OneGradient};
 ghost use Rattle.evaluation.specs.Batch.{ValueBatch, GradientBatch};
 ghost use Rattle.rectilinear_map.specs.Map.{mapOf, RectilinearBuilt};
-ghost use Rattle.rectilinear_map.specs.Eval.{mapAnswer, rectilinear};
+ghost use Rattle.rectilinear_map.specs.Eval.{gridAnswer, mapAnswer, rectilinear};
 use crate::batch;
 use crate::build;
 use crate::eval;
@@ -134,6 +134,15 @@ impl MultiBsplineRectilinear {
             linearize_extrapolation,
             coeffs.len(),
         )
+    }
+
+    // A map from its grid, for a caller that builds it anew for each call that evaluates it: that call looks at the knots
+    // and the coefficients, so that they are looked at once. 1, 2, 3 for the shape; 2, the length of the joined grid.
+    pub fn of_grid(shape: Shape, grid: &[f64], linearize_extrapolation: bool) -> Built
+        ensures { λ r. ⌜ RectilinearBuilt binary64 (gridAnswer (shape .count) (shape .dims) (now (grid .entry))) (shape .count) (shape .dims) (now (grid .entry)) «linearize_extrapolation» r ⌝ }
+    {
+        let dims = shape.dims;
+        build::of_grid(shape.count, dims, grid, linearize_extrapolation)
     }
 
     // Fits the values, then builds the map. The refusals of the fit, with `coeffs` and `scratch` untouched; a map whose fit

@@ -15,7 +15,8 @@ accepted-requires : tie.Need-accepted-requires
 accepted-requires c κs =
     let w = c .before .before in
     let s = w .before .before in
-    told-sound (s .args .count) (s .args .dims) (now (s .args .grid)) (s .args .coeffs) (omega (arith, s .good)) (c .enum-told .given .1) (w .check-map .ensures) .gridded
+    let g = told-sound (s .args .count) (s .args .dims) (now (s .args .grid)) (s .args .coeffs) (omega (arith, s .good)) (c .enum-told .given .1) (w .check-map .ensures) .gridded in
+    (g .shape, g .joined)
 
 returns-2 : tie.Need-returns-2
 returns-2 c =

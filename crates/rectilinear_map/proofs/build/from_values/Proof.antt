@@ -23,7 +23,8 @@ accepted-requires c κs =
     let w = c .before .before .before .before .before .before in
     let s = w .before .before .before .before .before .before .before in
     let a = s .args in
-    fit-gridded (a .count) (a .dims) (now (a .grid)) (length (now (a .vals))) (length (now (a .coeffs))) (length (now (a .scratch))) (omega (arith, s .good)) (c .enum-told .given .1) (w .coefficients .ensures .answers)
+    let g = fit-gridded (a .count) (a .dims) (now (a .grid)) (length (now (a .vals))) (length (now (a .coeffs))) (length (now (a .scratch))) (omega (arith, s .good)) (c .enum-told .given .1) (w .coefficients .ensures .answers) in
+    (g .shape, g .joined)
 
 returns-2 : tie.Need-returns-2
 returns-2 c =
