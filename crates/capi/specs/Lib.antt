@@ -1,0 +1,5 @@
+pub mod Inputs
+pub mod Outputs
+pub mod Splines
+pub mod Regular
+pub mod Rectilinear

@@ -1,0 +1,190 @@
+// Maps on a regular grid: `grid` has the start of each axis, then the step of each axis.
+ghost use mathlib.Core.Path.{_≡_};
+ghost use lib.ListN.{length};
+ghost use lib.Ieee.{binary64};
+ghost use Rattle.shape.specs.Checks.{firstRefusal};
+ghost use Rattle.shape.specs.Refusal.{answerNumber};
+ghost use Rattle.evaluation.specs.Axes.{query};
+ghost use Rattle.evaluation.specs.Spline.{oneAnswer};
+ghost use Rattle.evaluation.specs.Batch.{gradientStep, ValueBatch, GradientBatch};
+ghost use Rattle.regular.specs.Fit.{RegularFitted};
+ghost use Rattle.regular_map.specs.Map.{mapOf};
+ghost use Rattle.capi.specs.Inputs.{lensOf, isOn};
+ghost use Rattle.capi.specs.Outputs.{Wrote};
+ghost use Rattle.capi.specs.Splines.{withSlopes};
+ghost use Rattle.capi.specs.Regular.{readyChecks, regularChecks, regularMap, regularSpline, FromValues};
+use crate::inputs::four_from;
+use crate::inputs::shape_of;
+use crate::outputs::else_mismatch;
+use crate::outputs::number;
+use crate::outputs::put_gradient;
+use crate::outputs::put_value;
+use regular_map::MultiBsplineRegular;
+use shape::Answer;
+use shape::Refusal;
+
+// The shape, then the length of the grid.
+fn check_grid(dims: &[usize], grid: &[f64]) -> Answer
+    ensures { λ r. ⌜ answerNumber r ≡ firstRefusal (readyChecks (now (dims .entry)) (now (grid .entry))) ⌝ }
+{
+    let shape = shape_of(dims);
+    if let Answer::Refused(refusal) = shape.check() {
+        return Answer::Refused(refusal);
+    }
+    if grid.len() != 2 * dims.len() {
+        return Answer::Refused(Refusal::DimensionMismatch);
+    }
+    Answer::Accepted
+}
+
+fn map_of(dims: &[usize], grid: &[f64], linear: u32) -> MultiBsplineRegular
+    ensures { λ r. ⌜ mapOf r ≡ regularMap (now (dims .entry)) (now (grid .entry)) (isOn linear) ⌝ }
+{
+    let shape = shape_of(dims);
+    let lens = shape.dims;
+    let starts = four_from(grid, 0);
+    let steps = four_from(grid, dims.len());
+    MultiBsplineRegular {
+        count: dims.len(),
+        dims: lens,
+        starts: starts,
+        steps: steps,
+        linearize_extrapolation: linear != 0,
+    }
+}
+
+#[no_mangle]
+pub extern "C" fn corvezan_regular_fit(
+    dims: &[usize],
+    vals: &[f64],
+    coeffs: &mut [f64],
+    scratch: &mut [f64],
+) -> u32
+    ensures { λ n. ⌜ RegularFitted binary64 (length (now (dims .entry))) (lensOf (now (dims .entry))) (now (vals .entry)) (now (coeffs .entry)) (now (scratch .entry)) n (now (coeffs .exit)) (now (scratch .exit)) ⌝ }
+{
+    let shape = shape_of(dims);
+    number(regular::coefficients(shape, vals, coeffs, scratch))
+}
+
+#[no_mangle]
+pub extern "C" fn corvezan_regular_check(dims: &[usize], grid: &[f64], coeffs_len: usize) -> u32
+    ensures { λ n. ⌜ n ≡ firstRefusal (regularChecks (now (dims .entry)) (now (grid .entry)) «coeffs_len») ⌝ }
+{
+    let refused = number(check_grid(dims, grid));
+    if refused != 0 {
+        return refused;
+    }
+    let map = map_of(dims, grid, 0);
+    let lens = map.dims;
+    let steps = map.steps;
+    number(regular_map::check_map(map.count, lens, steps, coeffs_len))
+}
+
+#[no_mangle]
+pub extern "C" fn corvezan_regular_from_values(
+    dims: &[usize],
+    grid: &[f64],
+    vals: &[f64],
+    coeffs: &mut [f64],
+    scratch: &mut [f64],
+) -> u32
+    ensures { λ n. ⌜ FromValues binary64 (now (dims .entry)) (now (grid .entry)) (now (vals .entry)) (now (coeffs .entry)) (now (scratch .entry)) n (now (coeffs .exit)) (now (scratch .exit)) ⌝ }
+{
+    let refused = number(check_grid(dims, grid));
+    if refused != 0 {
+        return refused;
+    }
+    let shape = shape_of(dims);
+    let starts = four_from(grid, 0);
+    let steps = four_from(grid, dims.len());
+    let built = MultiBsplineRegular::from_values_with_workspace(
+        shape,
+        starts,
+        steps,
+        vals,
+        coeffs,
+        scratch,
+        false,
+    );
+    let answer = built.answer;
+    number(answer)
+}
+
+#[no_mangle]
+pub extern "C" fn corvezan_regular_value(
+    dims: &[usize],
+    grid: &[f64],
+    linear: u32,
+    coeffs: &[f64],
+    x: &[f64],
+    value: &mut f64,
+) -> u32
+    ensures { λ n. ⌜ Wrote (oneAnswer (regularSpline binary64 (now (dims .entry)) (now (grid .entry)) (isOn linear) (now (coeffs .entry))) (now (x .entry))) (regularSpline binary64 (now (dims .entry)) (now (grid .entry)) (isOn linear) (now (coeffs .entry)) .value (query (length (now (dims .entry))) (now (x .entry)) 1 0)) (now (value .entry)) n (now (value .exit)) ⌝ }
+{
+    let refused = number(check_grid(dims, grid));
+    if refused != 0 {
+        return refused;
+    }
+    let map = map_of(dims, grid, linear);
+    put_value(map.interp_one(coeffs, x), value)
+}
+
+#[no_mangle]
+pub extern "C" fn corvezan_regular_gradient(
+    dims: &[usize],
+    grid: &[f64],
+    linear: u32,
+    coeffs: &[f64],
+    x: &[f64],
+    slopes: &mut [f64],
+) -> u32
+    ensures { λ n. ⌜ Wrote (oneAnswer (withSlopes (length (now (slopes .entry))) (regularSpline binary64 (now (dims .entry)) (now (grid .entry)) (isOn linear) (now (coeffs .entry)))) (now (x .entry))) (gradientStep (regularSpline binary64 (now (dims .entry)) (now (grid .entry)) (isOn linear) (now (coeffs .entry))) (now (x .entry)) 1 0 (now (slopes .entry))) (now (slopes .entry)) n (now (slopes .exit)) ⌝ }
+{
+    if slopes.len() != dims.len() {
+        return else_mismatch(corvezan_regular_check(dims, grid, coeffs.len()));
+    }
+    let refused = number(check_grid(dims, grid));
+    if refused != 0 {
+        return refused;
+    }
+    let map = map_of(dims, grid, linear);
+    put_gradient(map.interp_one_grad(coeffs, x), slopes)
+}
+
+#[no_mangle]
+pub extern "C" fn corvezan_regular_values(
+    dims: &[usize],
+    grid: &[f64],
+    linear: u32,
+    coeffs: &[f64],
+    x: &[f64],
+    values: &mut [f64],
+) -> u32
+    ensures { λ n. ⌜ ValueBatch (regularSpline binary64 (now (dims .entry)) (now (grid .entry)) (isOn linear) (now (coeffs .entry))) (now (x .entry)) (now (values .entry)) n (now (values .exit)) ⌝ }
+{
+    let refused = number(check_grid(dims, grid));
+    if refused != 0 {
+        return refused;
+    }
+    let map = map_of(dims, grid, linear);
+    number(map.interp(coeffs, x, values))
+}
+
+#[no_mangle]
+pub extern "C" fn corvezan_regular_gradients(
+    dims: &[usize],
+    grid: &[f64],
+    linear: u32,
+    coeffs: &[f64],
+    x: &[f64],
+    slopes: &mut [f64],
+) -> u32
+    ensures { λ n. ⌜ GradientBatch (regularSpline binary64 (now (dims .entry)) (now (grid .entry)) (isOn linear) (now (coeffs .entry))) (now (x .entry)) (now (slopes .entry)) n (now (slopes .exit)) ⌝ }
+{
+    let refused = number(check_grid(dims, grid));
+    if refused != 0 {
+        return refused;
+    }
+    let map = map_of(dims, grid, linear);
+    number(map.interp_grad(coeffs, x, slopes))
+}

@@ -1,0 +1,104 @@
+// Stepwise fitting on a regular grid.
+ghost use mathlib.Core.Path.{_≡_};
+ghost use mathlib.Core.List.{[]};
+ghost use lib.ListN.{length};
+ghost use lib.Ieee.{binary64};
+ghost use Rattle.shape.specs.Refusal.{answerNumber};
+ghost use Rattle.book.specs.LineCall.{beginAnswer};
+ghost use Rattle.stepwise.specs.Regular.{RegularBegun, RegularLineCalled, RegularRan};
+ghost use Rattle.capi.specs.Inputs.{lensOf};
+use crate::inputs::shape_of;
+use crate::outputs::number;
+use ledger::check_held;
+use ledger::check_lent;
+use ledger::start;
+use shape::Answer;
+use shape::Shape;
+
+// The checks of begin, from the lengths of its buffers: `stepwise` takes scratch itself, of which C hands only the length.
+fn check_begin(
+    count: usize,
+    dims: [usize; 4],
+    vals: usize,
+    coeffs: usize,
+    ledger: usize,
+    scratch: usize,
+) -> Answer
+    ensures { λ r. ⌜ answerNumber r ≡ beginAnswer count dims [] [] vals coeffs ledger scratch ⌝ }
+{
+    let shape = Shape { count, dims };
+    if let Answer::Refused(refusal) = shape.check() {
+        return Answer::Refused(refusal);
+    }
+    if let Answer::Refused(refusal) = check_held(count, dims, coeffs, ledger) {
+        return Answer::Refused(refusal);
+    }
+    check_lent(count, dims, vals, scratch)
+}
+
+#[no_mangle]
+pub extern "C" fn corvezan_regular_begin(
+    dims: &[usize],
+    vals: &[f64],
+    coeffs: &mut [f64],
+    ledger: &mut [u8],
+    scratch_len: usize,
+) -> u32
+    ensures { λ n. ⌜ RegularBegun (length (now (dims .entry))) (lensOf (now (dims .entry))) (now (vals .entry)) (record { coefs = now (coeffs .entry); ledger = now (ledger .entry) }) «scratch_len» n (record { coefs = now (coeffs .exit); ledger = now (ledger .exit) }) ⌝ }
+{
+    let shape = shape_of(dims);
+    let lens = shape.dims;
+    let refused = number(check_begin(
+        shape.count,
+        lens,
+        vals.len(),
+        coeffs.len(),
+        ledger.len(),
+        scratch_len,
+    ));
+    if refused == 0 {
+        start(vals, coeffs, ledger);
+    }
+    refused
+}
+
+#[no_mangle]
+pub extern "C" fn corvezan_regular_line(
+    dims: &[usize],
+    axis: usize,
+    line: usize,
+    coeffs: &mut [f64],
+    ledger: &mut [u8],
+    scratch: &mut [f64],
+) -> u32
+    ensures { λ n. ⌜ RegularLineCalled binary64 (length (now (dims .entry))) (lensOf (now (dims .entry))) (record { axis = axis; line = line; scratch = now (scratch .entry) }) (record { coefs = now (coeffs .entry); ledger = now (ledger .entry) }) n (record { coefs = now (coeffs .exit); ledger = now (ledger .exit) }) (now (scratch .exit)) ⌝ }
+{
+    let shape = shape_of(dims);
+    number(stepwise::solve_regular_line(shape, axis, line, coeffs, ledger, scratch))
+}
+
+#[no_mangle]
+pub extern "C" fn corvezan_regular_list(
+    dims: &[usize],
+    vals: &[f64],
+    task_axes: &[usize],
+    task_lines: &[usize],
+    coeffs: &mut [f64],
+    ledger: &mut [u8],
+    scratch: &mut [f64],
+    answers: &mut [u8],
+) -> u32
+    ensures { λ n. ⌜ RegularRan binary64 (length (now (dims .entry))) (lensOf (now (dims .entry))) (now (vals .entry)) (now («task_axes» .entry)) (now («task_lines» .entry)) (record { coefs = now (coeffs .entry); ledger = now (ledger .entry) }) (now (scratch .entry)) (now (answers .entry)) n (record { coefs = now (coeffs .exit); ledger = now (ledger .exit) }) (now (scratch .exit)) (now (answers .exit)) ⌝ }
+{
+    let shape = shape_of(dims);
+    number(stepwise::fit_regular_by_list(
+        shape,
+        vals,
+        task_axes,
+        task_lines,
+        coeffs,
+        ledger,
+        scratch,
+        answers,
+    ))
+}
