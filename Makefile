@@ -1,0 +1,136 @@
+# Corvezan as a part to link: the library for C, its examples, and their tests. `make help` lists what can be made.
+#
+# The library is proved and compiled by the kit. With ARCHIVE=FILE another archive of it is taken, and no kit is needed.
+
+PREFIX = /usr/local
+DESTDIR =
+ARCHIVE = target/staticlib/libcapi.a
+VERSION = 0.1.0
+
+CC = gcc
+CXX = g++
+PYTHON = python3
+CARGO = cargo
+VALGRIND = valgrind
+INSTALL = install
+
+OUT = target/make
+LIBRARY = $(OUT)/libcorvezan.a
+SHARED = $(OUT)/libcorvezan.so
+BIN = $(OUT)/bin
+
+WARNINGS = -Wall -Wextra -Wpedantic -Werror
+CFLAGS = -O2 -g
+CXXFLAGS = -O2 -g
+C99 = -std=c99 $(WARNINGS) -Iinclude
+CXX17 = -std=c++17 $(WARNINGS) -Iinclude
+
+HEADER = include/corvezan.h
+SOURCES = crates.txt $(wildcard crates/*/src/*.rt crates/*/specs/*.antt crates/*/proofs/*/*.antt)
+PARTS = examples/c/explain.c examples/c/cells.c examples/c/table.c
+SHEET = examples/c/rating_sheet.c examples/c/layout.c examples/c/place.c $(PARTS)
+SLICE = examples/c/task_slice.c examples/c/tasks.c $(PARTS)
+CALLS = $(addprefix examples/c/tests/,main.c shape.c regular.c rectilinear.c)
+C_HEADERS = $(HEADER) $(wildcard examples/c/*.h examples/c/tests/*.h)
+PROGRAMS = rating_sheet task_slice calls calls_cxx
+
+SANITIZERS = -fsanitize=address,undefined -fno-sanitize-recover=all -O1 -g
+MEMCHECK = $(VALGRIND) --quiet --error-exitcode=99 --leak-check=full --errors-for-leak-kinds=all
+
+.PHONY: all help examples shared install uninstall test test-header test-c test-rust test-python sanitize memcheck clean
+.DELETE_ON_ERROR:
+
+all: $(LIBRARY)
+
+help:
+	@echo "make             the library, $(LIBRARY)"
+	@echo "make shared      the shared library, $(SHARED)"
+	@echo "make examples    the C examples, in $(BIN)"
+	@echo "make install     header, library and pkg-config file, under DESTDIR and PREFIX ($(PREFIX))"
+	@echo "make uninstall   removes them"
+	@echo "make test        header, C, Rust and Python tests"
+	@echo "make sanitize    the C tests with the address and undefined-behaviour sanitizers"
+	@echo "make memcheck    the C tests under valgrind"
+	@echo "make clean       removes $(OUT)"
+
+# ---- the library
+
+$(OUT) $(BIN) $(OUT)/sanitize:
+	mkdir -p $@
+
+target/staticlib/libcapi.a: $(SOURCES)
+	rt staticlib capi
+	touch $@
+
+$(LIBRARY): $(ARCHIVE) | $(OUT)
+	cp $(ARCHIVE) $@
+
+# Only the functions of the header are seen from outside.
+$(OUT)/exports: | $(OUT)
+	echo '{ global: corvezan_*; local: *; };' > $@
+
+$(SHARED): $(LIBRARY) $(OUT)/exports
+	$(CC) -shared -o $@ -Wl,--whole-archive $(LIBRARY) -Wl,--no-whole-archive -Wl,--no-undefined \
+	    -Wl,--version-script=$(OUT)/exports -Wl,-soname,libcorvezan.so
+
+shared: $(SHARED)
+
+# ---- the examples
+
+examples: $(BIN)/rating_sheet $(BIN)/task_slice
+
+$(BIN)/rating_sheet: $(SHEET) $(C_HEADERS) $(LIBRARY) | $(BIN)
+	$(CC) $(C99) $(CFLAGS) -o $@ $(SHEET) $(LIBRARY)
+
+$(BIN)/task_slice: $(SLICE) $(C_HEADERS) $(LIBRARY) | $(BIN)
+	$(CC) $(C99) $(CFLAGS) -o $@ $(SLICE) $(LIBRARY)
+
+$(BIN)/calls: $(CALLS) $(C_HEADERS) $(LIBRARY) | $(BIN)
+	$(CC) $(C99) $(CFLAGS) -o $@ $(CALLS) $(LIBRARY) -lm
+
+$(BIN)/calls_cxx: $(CALLS) $(C_HEADERS) $(LIBRARY) | $(BIN)
+	$(CXX) $(CXX17) $(CXXFLAGS) -o $@ -x c++ $(CALLS) -x none $(LIBRARY)
+
+# ---- installing
+
+install: $(LIBRARY)
+	$(INSTALL) -d $(DESTDIR)$(PREFIX)/include $(DESTDIR)$(PREFIX)/lib/pkgconfig
+	$(INSTALL) -m 644 $(HEADER) $(DESTDIR)$(PREFIX)/include/corvezan.h
+	$(INSTALL) -m 644 $(LIBRARY) $(DESTDIR)$(PREFIX)/lib/libcorvezan.a
+	sed -e 's,@PREFIX@,$(PREFIX),' -e 's,@VERSION@,$(VERSION),' corvezan.pc.in > $(OUT)/corvezan.pc
+	$(INSTALL) -m 644 $(OUT)/corvezan.pc $(DESTDIR)$(PREFIX)/lib/pkgconfig/corvezan.pc
+
+uninstall:
+	rm -f $(DESTDIR)$(PREFIX)/include/corvezan.h $(DESTDIR)$(PREFIX)/lib/libcorvezan.a
+	rm -f $(DESTDIR)$(PREFIX)/lib/pkgconfig/corvezan.pc
+
+# ---- tests
+
+test: test-header test-c test-rust test-python
+
+# The header by itself, in both languages: it needs nothing to be included before it.
+test-header:
+	$(CC) $(C99) -fsyntax-only -x c $(HEADER)
+	$(CXX) $(CXX17) -fsyntax-only -x c++ $(HEADER)
+
+test-c: $(addprefix $(BIN)/,$(PROGRAMS))
+	$(BIN)/calls
+	$(BIN)/calls_cxx
+	cd examples/c && CORVEZAN_BIN=$(CURDIR)/$(BIN) $(PYTHON) -m unittest
+
+test-rust: $(LIBRARY)
+	cd examples/rust && CORVEZAN_LIB_DIR=$(CURDIR)/$(OUT) CARGO_TARGET_DIR=$(CURDIR)/$(OUT)/cargo $(CARGO) test --offline
+
+test-python: $(SHARED)
+	cd python && CORVEZAN_LIBRARY=$(CURDIR)/$(SHARED) $(PYTHON) -m unittest
+
+sanitize: $(LIBRARY) | $(OUT)/sanitize
+	$(MAKE) BIN=$(OUT)/sanitize CFLAGS='$(SANITIZERS)' CXXFLAGS='$(SANITIZERS)' test-c
+
+memcheck: $(addprefix $(BIN)/,$(PROGRAMS))
+	$(MEMCHECK) $(BIN)/calls
+	$(MEMCHECK) $(BIN)/calls_cxx
+	cd examples/c && CORVEZAN_BIN=$(CURDIR)/$(BIN) CORVEZAN_UNDER='$(MEMCHECK)' $(PYTHON) -m unittest
+
+clean:
+	rm -rf $(OUT)
