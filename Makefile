@@ -55,18 +55,17 @@ help:
 
 # ---- the library
 
-$(OUT) $(BIN) $(OUT)/sanitize:
-	mkdir -p $@
-
 target/staticlib/libcapi.a: $(SOURCES)
 	rt staticlib capi
 	touch $@
 
-$(LIBRARY): $(ARCHIVE) | $(OUT)
+$(LIBRARY): $(ARCHIVE)
+	@mkdir -p $(@D)
 	cp $(ARCHIVE) $@
 
 # Only the functions of the header are seen from outside.
-$(OUT)/exports: | $(OUT)
+$(OUT)/exports:
+	@mkdir -p $(@D)
 	echo '{ global: corvezan_*; local: *; };' > $@
 
 $(SHARED): $(LIBRARY) $(OUT)/exports
@@ -79,16 +78,20 @@ shared: $(SHARED)
 
 examples: $(BIN)/rating_sheet $(BIN)/task_slice
 
-$(BIN)/rating_sheet: $(SHEET) $(C_HEADERS) $(LIBRARY) | $(BIN)
+$(BIN)/rating_sheet: $(SHEET) $(C_HEADERS) $(LIBRARY)
+	@mkdir -p $(@D)
 	$(CC) $(C99) $(CFLAGS) -o $@ $(SHEET) $(LIBRARY)
 
-$(BIN)/task_slice: $(SLICE) $(C_HEADERS) $(LIBRARY) | $(BIN)
+$(BIN)/task_slice: $(SLICE) $(C_HEADERS) $(LIBRARY)
+	@mkdir -p $(@D)
 	$(CC) $(C99) $(CFLAGS) -o $@ $(SLICE) $(LIBRARY)
 
-$(BIN)/calls: $(CALLS) $(C_HEADERS) $(LIBRARY) | $(BIN)
+$(BIN)/calls: $(CALLS) $(C_HEADERS) $(LIBRARY)
+	@mkdir -p $(@D)
 	$(CC) $(C99) $(CFLAGS) -o $@ $(CALLS) $(LIBRARY) -lm
 
-$(BIN)/calls_cxx: $(CALLS) $(C_HEADERS) $(LIBRARY) | $(BIN)
+$(BIN)/calls_cxx: $(CALLS) $(C_HEADERS) $(LIBRARY)
+	@mkdir -p $(@D)
 	$(CXX) $(CXX17) $(CXXFLAGS) -o $@ -x c++ $(CALLS) -x none $(LIBRARY)
 
 # ---- installing
@@ -124,7 +127,7 @@ test-rust: $(LIBRARY)
 test-python: $(SHARED)
 	cd python && CORVEZAN_LIBRARY=$(CURDIR)/$(SHARED) $(PYTHON) -m unittest
 
-sanitize: $(LIBRARY) | $(OUT)/sanitize
+sanitize: $(LIBRARY)
 	$(MAKE) BIN=$(OUT)/sanitize CFLAGS='$(SANITIZERS)' CXXFLAGS='$(SANITIZERS)' test-c
 
 memcheck: $(addprefix $(BIN)/,$(PROGRAMS))
