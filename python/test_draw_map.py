@@ -54,7 +54,8 @@ class Contents(unittest.TestCase):
             root = drawn("--along", along)
             self.assertEqual(len(of_class(root, "curve")), 3 * other)
             self.assertEqual(len([x for x in of_class(root, "curve") if x.get("stroke-dasharray")]), 2 * other)
-            self.assertEqual(len(of_class(root, "tested")) - len(of_class(root, "asked")) + 11, 30 + 3 - 3 + 3)
+            # 30 figures of the table, 3 marks at tested points, and the mark of the legend.
+            self.assertEqual(len(of_class(root, "tested")), 30 + 3 + 1)
             self.assertEqual(len({x.get("stroke") for x in of_class(root, "curve")}), other)
 
     def test_a_table_without_points(self):
@@ -154,7 +155,8 @@ class Faults(unittest.TestCase):
 
 class Pictures(unittest.TestCase):
     def test_numbers(self):
-        self.assertEqual([number(x) for x in (1, 1.5, 1.239, -0.004, 100.0, "x")], ["1", "1.5", "1.24", "-0", "100", "x"])
+        found = [number(x) for x in (1, 1.5, 1.239, 0.004, 100.0, "x")]
+        self.assertEqual(found, ["1", "1.5", "1.24", "0", "100", "x"])
 
     def test_boxes(self):
         picture = Picture()

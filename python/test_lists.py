@@ -97,7 +97,7 @@ class Fits(Lists):
 
     def replay(self, number, kind, record):
         count, lengths = record.one(), record.take(4)
-        knots, samples, cells, lent, should, _ = record.take(6)
+        knots, samples, cells, lent, should, tolerance = record.take(6)
         grid, vals = doubles(record.take(knots)), doubles(record.take(samples))
         dims = used(count, lengths)
         map = Rectilinear(grid, dims=dims) if kind in RECTILINEAR_KINDS else Regular(dims, [], [])
@@ -109,6 +109,10 @@ class Fits(Lists):
         elif kind != PUBLISHED:
             self.same(number, "coefficients", words_of(coeffs), held(doubles(record.take(cells))))
             self.same(number, "scratch", words_of(scratch), held(doubles(record.take(lent))))
+        else:
+            expected = doubles(record.take(cells))
+            most = doubles([tolerance])[0]
+            self.same(number, "published", [abs(a - b) <= most for a, b in zip(coeffs, expected)], [True] * cells)
 
 
 class Queries(Lists):

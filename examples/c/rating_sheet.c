@@ -83,8 +83,8 @@ static int rate(const struct map *map, const double x[2], double figures[3]) {
     uint32_t answer = corvezan_rectilinear_value(t->dims, 2, t->knots, map->knots, map->linear, map->coeffs,
                                                  map->points, x, 2, &figures[0]);
     if (answer == CORVEZAN_ACCEPTED) {
-        answer = corvezan_rectilinear_gradient(t->dims, 2, t->knots, map->knots, map->linear, map->coeffs,
-                                               map->points, x, 2, &figures[1], 2);
+        answer = corvezan_rectilinear_gradient(t->dims, 2, t->knots, map->knots, map->linear, map->coeffs, map->points,
+                                               x, 2, &figures[1], 2);
     }
     if (answer != CORVEZAN_ACCEPTED) {
         char what[96];

@@ -94,17 +94,16 @@ static int settle(struct job *job, struct task task, uint32_t answer) {
     } else if (answer == CORVEZAN_ALREADY_SOLVED || answer == CORVEZAN_NO_SUCH_LINE) {
         next = "taken off the list";
     }
-    printf("  axis %lu line %lu: %lu, %s\n", (unsigned long)task.axis, (unsigned long)task.line,
-           (unsigned long)answer, next);
+    printf("  axis %lu line %lu: %lu, %s\n", (unsigned long)task.axis, (unsigned long)task.line, (unsigned long)answer,
+           next);
     return strcmp(next, "stopped") != 0;
 }
 
 static int call(struct job *job) {
     const struct table *t = job->table;
     struct task task = tasks_take(&job->tasks);
-    uint32_t answer =
-        corvezan_rectilinear_line(t->dims, AXES, t->knots, job->knots, task.axis, task.line, job->coeffs, job->points,
-                                  job->ledger, job->points, job->scratch, 2 * MOST_VALUES);
+    uint32_t answer = corvezan_rectilinear_line(t->dims, AXES, t->knots, job->knots, task.axis, task.line, job->coeffs,
+                                                job->points, job->ledger, job->points, job->scratch, 2 * MOST_VALUES);
     if (!settle(job, task, answer)) {
         explain_to(stderr, "A line call", answer);
         return 0;

@@ -1,4 +1,5 @@
-/* main.c: calls every function of corvezan.h, from C or from C++, and says whether each answers as the header has it. */
+/* main.c: calls every function of corvezan.h, from C or from C++, and says whether each answers as it says.
+ */
 #include "expect.h"
 
 int failures = 0;

@@ -79,7 +79,8 @@ static void fit_refused(void) {
     EXPECT(corvezan_rectilinear_fit(DIMS, 2, FALLS, KNOTS, vals, 19, coeffs, N, scratch, 9) == CORVEZAN_NOT_INCREASING);
     EXPECT(corvezan_rectilinear_fit(DIMS, 2, GRID, KNOTS, vals, 19, coeffs, N, scratch, 9) ==
            CORVEZAN_DIMENSION_MISMATCH);
-    EXPECT(corvezan_rectilinear_fit(DIMS, 2, GRID, KNOTS, vals, N, coeffs, N, scratch, 9) == CORVEZAN_SCRATCH_TOO_SMALL);
+    EXPECT(corvezan_rectilinear_fit(DIMS, 2, GRID, KNOTS, vals, N, coeffs, N, scratch, 9) ==
+           CORVEZAN_SCRATCH_TOO_SMALL);
     EXPECT(corvezan_rectilinear_check(DIMS, 2, GRID, 8, N) == CORVEZAN_DIMENSION_MISMATCH);
     EXPECT(corvezan_rectilinear_check(DIMS, 2, GRID, KNOTS, 19) == CORVEZAN_DIMENSION_MISMATCH);
     EXPECT(corvezan_rectilinear_check(DIMS, 2, FALLS, KNOTS, N) == CORVEZAN_NOT_INCREASING);
@@ -94,7 +95,8 @@ static void queries_refused(void) {
     EXPECT(corvezan_rectilinear_value(DIMS, 2, FALLS, KNOTS, 0, vals, N, x, 1, &value) == CORVEZAN_NOT_INCREASING);
     EXPECT(corvezan_rectilinear_value(DIMS, 2, GRID, KNOTS, 0, vals, 19, x, 2, &value) == CORVEZAN_DIMENSION_MISMATCH);
     EXPECT(corvezan_rectilinear_value(DIMS, 2, GRID, KNOTS, 0, vals, N, x, 1, &value) == CORVEZAN_DIMENSION_MISMATCH);
-    EXPECT(corvezan_rectilinear_gradient(DIMS, 2, GRID, KNOTS, 0, vals, N, x, 2, out, 3) == CORVEZAN_DIMENSION_MISMATCH);
+    EXPECT(corvezan_rectilinear_gradient(DIMS, 2, GRID, KNOTS, 0, vals, N, x, 2, out, 3) ==
+           CORVEZAN_DIMENSION_MISMATCH);
     EXPECT(corvezan_rectilinear_values(DIMS, 2, GRID, KNOTS, 0, vals, N, x, 2, out, 2) == CORVEZAN_DIMENSION_MISMATCH);
     EXPECT(corvezan_rectilinear_gradients(DIMS, 2, GRID, KNOTS, 0, vals, N, x, 2, out, 3) ==
            CORVEZAN_DIMENSION_MISMATCH);

@@ -102,7 +102,8 @@ static void fit_refused(void) {
     EXPECT(corvezan_regular_fit(DIMS, 2, vals, N - 1, coeffs, N, scratch, 10) == CORVEZAN_DIMENSION_MISMATCH);
     EXPECT(corvezan_regular_fit(DIMS, 2, vals, N, coeffs, N - 1, scratch, 10) == CORVEZAN_DIMENSION_MISMATCH);
     EXPECT(corvezan_regular_fit(DIMS, 2, vals, N, coeffs, N, scratch, 9) == CORVEZAN_SCRATCH_TOO_SMALL);
-    EXPECT(corvezan_regular_from_values(DIMS, 2, GRID, 3, vals, N, coeffs, N, scratch, 9) == CORVEZAN_DIMENSION_MISMATCH);
+    EXPECT(corvezan_regular_from_values(DIMS, 2, GRID, 3, vals, N, coeffs, N, scratch, 9) ==
+           CORVEZAN_DIMENSION_MISMATCH);
     EXPECT(corvezan_regular_from_values(DIMS, 2, bad, 4, vals, N, coeffs, N, scratch, 9) == CORVEZAN_SCRATCH_TOO_SMALL);
     EXPECT(corvezan_regular_check(DIMS, 2, GRID, 3, N) == CORVEZAN_DIMENSION_MISMATCH);
     EXPECT(corvezan_regular_check(DIMS, 2, GRID, 4, N + 1) == CORVEZAN_DIMENSION_MISMATCH);
@@ -152,7 +153,8 @@ static void stepwise(void) {
 }
 
 static void list(void) {
-    const size_t axes[LINES + 2] = {1, 0, 0, 0, 0, 0, 0, 1, 1, 1, 2}, lines[LINES + 2] = {3, 4, 0, 3, 1, 2, 2, 3, 0, 2, 0};
+    const size_t axes[LINES + 2] = {1, 0, 0, 0, 0, 0, 0, 1, 1, 1, 2},
+                              lines[LINES + 2] = {3, 4, 0, 3, 1, 2, 2, 3, 0, 2, 0};
     const uint8_t should[LINES + 2] = {9, 0, 0, 0, 0, 0, 8, 0, 0, 0, 7};
     uint8_t answers[LINES + 2];
     double fitted[N];

@@ -32,8 +32,16 @@ macro_rules! evaluation {
                 let mut value = 0.0;
                 answer(unsafe {
                     ffi::$value(
-                        dims.as_ptr(), dims.len(), grid.as_ptr(), grid.len(), self.linear as u32, coeffs.as_ptr(),
-                        coeffs.len(), x.as_ptr(), x.len(), &mut value,
+                        dims.as_ptr(),
+                        dims.len(),
+                        grid.as_ptr(),
+                        grid.len(),
+                        self.linear as u32,
+                        coeffs.as_ptr(),
+                        coeffs.len(),
+                        x.as_ptr(),
+                        x.len(),
+                        &mut value,
                     )
                 })?;
                 Ok(value)
@@ -44,8 +52,17 @@ macro_rules! evaluation {
                 let (dims, grid) = (&self.dims, &self.grid);
                 answer(unsafe {
                     ffi::$gradient(
-                        dims.as_ptr(), dims.len(), grid.as_ptr(), grid.len(), self.linear as u32, coeffs.as_ptr(),
-                        coeffs.len(), x.as_ptr(), x.len(), slopes.as_mut_ptr(), slopes.len(),
+                        dims.as_ptr(),
+                        dims.len(),
+                        grid.as_ptr(),
+                        grid.len(),
+                        self.linear as u32,
+                        coeffs.as_ptr(),
+                        coeffs.len(),
+                        x.as_ptr(),
+                        x.len(),
+                        slopes.as_mut_ptr(),
+                        slopes.len(),
                     )
                 })
             }
@@ -55,8 +72,17 @@ macro_rules! evaluation {
                 let (dims, grid) = (&self.dims, &self.grid);
                 answer(unsafe {
                     ffi::$values(
-                        dims.as_ptr(), dims.len(), grid.as_ptr(), grid.len(), self.linear as u32, coeffs.as_ptr(),
-                        coeffs.len(), x.as_ptr(), x.len(), values.as_mut_ptr(), values.len(),
+                        dims.as_ptr(),
+                        dims.len(),
+                        grid.as_ptr(),
+                        grid.len(),
+                        self.linear as u32,
+                        coeffs.as_ptr(),
+                        coeffs.len(),
+                        x.as_ptr(),
+                        x.len(),
+                        values.as_mut_ptr(),
+                        values.len(),
                     )
                 })
             }
@@ -66,8 +92,17 @@ macro_rules! evaluation {
                 let (dims, grid) = (&self.dims, &self.grid);
                 answer(unsafe {
                     ffi::$gradients(
-                        dims.as_ptr(), dims.len(), grid.as_ptr(), grid.len(), self.linear as u32, coeffs.as_ptr(),
-                        coeffs.len(), x.as_ptr(), x.len(), slopes.as_mut_ptr(), slopes.len(),
+                        dims.as_ptr(),
+                        dims.len(),
+                        grid.as_ptr(),
+                        grid.len(),
+                        self.linear as u32,
+                        coeffs.as_ptr(),
+                        coeffs.len(),
+                        x.as_ptr(),
+                        x.len(),
+                        slopes.as_mut_ptr(),
+                        slopes.len(),
                     )
                 })
             }

@@ -13,9 +13,8 @@ extern "C" {
 macro_rules! evaluation_calls {
     ($check:ident, $value:ident, $gradient:ident, $values:ident, $gradients:ident) => {
         extern "C" {
-            pub fn $check(
-                dims: *const usize, axes: usize, grid: *const f64, grid_len: usize, coeffs_len: usize,
-            ) -> u32;
+            pub fn $check(dims: *const usize, axes: usize, grid: *const f64, grid_len: usize, coeffs_len: usize)
+                -> u32;
             pub fn $value(
                 dims: *const usize, axes: usize, grid: *const f64, grid_len: usize, linear: u32, coeffs: *const f64,
                 coeffs_len: usize, x: *const f64, x_len: usize, value: *mut f64,
@@ -37,12 +36,18 @@ macro_rules! evaluation_calls {
 }
 
 evaluation_calls!(
-    corvezan_regular_check, corvezan_regular_value, corvezan_regular_gradient, corvezan_regular_values,
+    corvezan_regular_check,
+    corvezan_regular_value,
+    corvezan_regular_gradient,
+    corvezan_regular_values,
     corvezan_regular_gradients
 );
 evaluation_calls!(
-    corvezan_rectilinear_check, corvezan_rectilinear_value, corvezan_rectilinear_gradient,
-    corvezan_rectilinear_values, corvezan_rectilinear_gradients
+    corvezan_rectilinear_check,
+    corvezan_rectilinear_value,
+    corvezan_rectilinear_gradient,
+    corvezan_rectilinear_values,
+    corvezan_rectilinear_gradients
 );
 
 extern "C" {
@@ -77,14 +82,13 @@ extern "C" {
         coeffs: *mut f64, coeffs_len: usize, ledger: *mut u8, ledger_len: usize, scratch_len: usize,
     ) -> u32;
     pub fn corvezan_rectilinear_line(
-        dims: *const usize, axes: usize, grid: *const f64, grid_len: usize, axis: usize, line: usize,
-        coeffs: *mut f64, coeffs_len: usize, ledger: *mut u8, ledger_len: usize, scratch: *mut f64,
-        scratch_len: usize,
+        dims: *const usize, axes: usize, grid: *const f64, grid_len: usize, axis: usize, line: usize, coeffs: *mut f64,
+        coeffs_len: usize, ledger: *mut u8, ledger_len: usize, scratch: *mut f64, scratch_len: usize,
     ) -> u32;
     pub fn corvezan_rectilinear_list(
         dims: *const usize, axes: usize, grid: *const f64, grid_len: usize, vals: *const f64, vals_len: usize,
         task_axes: *const usize, task_axes_len: usize, task_lines: *const usize, task_lines_len: usize,
-        coeffs: *mut f64, coeffs_len: usize, ledger: *mut u8, ledger_len: usize, scratch: *mut f64,
-        scratch_len: usize, answers: *mut u8, answers_len: usize,
+        coeffs: *mut f64, coeffs_len: usize, ledger: *mut u8, ledger_len: usize, scratch: *mut f64, scratch_len: usize,
+        answers: *mut u8, answers_len: usize,
     ) -> u32;
 }

@@ -37,8 +37,16 @@ impl Rectilinear {
     pub fn fit(&self, vals: &[f64], coeffs: &mut [f64], scratch: &mut [f64]) -> Result<()> {
         answer(unsafe {
             ffi::corvezan_rectilinear_fit(
-                self.dims.as_ptr(), self.dims.len(), self.grid.as_ptr(), self.grid.len(), vals.as_ptr(), vals.len(),
-                coeffs.as_mut_ptr(), coeffs.len(), scratch.as_mut_ptr(), scratch.len(),
+                self.dims.as_ptr(),
+                self.dims.len(),
+                self.grid.as_ptr(),
+                self.grid.len(),
+                vals.as_ptr(),
+                vals.len(),
+                coeffs.as_mut_ptr(),
+                coeffs.len(),
+                scratch.as_mut_ptr(),
+                scratch.len(),
             )
         })
     }
@@ -48,8 +56,17 @@ impl Rectilinear {
     pub fn begin(&self, vals: &[f64], coeffs: &mut [f64], ledger: &mut [u8], scratch_len: usize) -> Result<()> {
         answer(unsafe {
             ffi::corvezan_rectilinear_begin(
-                self.dims.as_ptr(), self.dims.len(), self.grid.as_ptr(), self.grid.len(), vals.as_ptr(), vals.len(),
-                coeffs.as_mut_ptr(), coeffs.len(), ledger.as_mut_ptr(), ledger.len(), scratch_len,
+                self.dims.as_ptr(),
+                self.dims.len(),
+                self.grid.as_ptr(),
+                self.grid.len(),
+                vals.as_ptr(),
+                vals.len(),
+                coeffs.as_mut_ptr(),
+                coeffs.len(),
+                ledger.as_mut_ptr(),
+                ledger.len(),
+                scratch_len,
             )
         })
     }
@@ -60,8 +77,17 @@ impl Rectilinear {
     ) -> Result<()> {
         answer(unsafe {
             ffi::corvezan_rectilinear_line(
-                self.dims.as_ptr(), self.dims.len(), self.grid.as_ptr(), self.grid.len(), axis, line,
-                coeffs.as_mut_ptr(), coeffs.len(), ledger.as_mut_ptr(), ledger.len(), scratch.as_mut_ptr(),
+                self.dims.as_ptr(),
+                self.dims.len(),
+                self.grid.as_ptr(),
+                self.grid.len(),
+                axis,
+                line,
+                coeffs.as_mut_ptr(),
+                coeffs.len(),
+                ledger.as_mut_ptr(),
+                ledger.len(),
+                scratch.as_mut_ptr(),
                 scratch.len(),
             )
         })
@@ -75,10 +101,24 @@ impl Rectilinear {
     ) -> Result<()> {
         answer(unsafe {
             ffi::corvezan_rectilinear_list(
-                self.dims.as_ptr(), self.dims.len(), self.grid.as_ptr(), self.grid.len(), vals.as_ptr(), vals.len(),
-                task_axes.as_ptr(), task_axes.len(), task_lines.as_ptr(), task_lines.len(), coeffs.as_mut_ptr(),
-                coeffs.len(), ledger.as_mut_ptr(), ledger.len(), scratch.as_mut_ptr(), scratch.len(),
-                answers.as_mut_ptr(), answers.len(),
+                self.dims.as_ptr(),
+                self.dims.len(),
+                self.grid.as_ptr(),
+                self.grid.len(),
+                vals.as_ptr(),
+                vals.len(),
+                task_axes.as_ptr(),
+                task_axes.len(),
+                task_lines.as_ptr(),
+                task_lines.len(),
+                coeffs.as_mut_ptr(),
+                coeffs.len(),
+                ledger.as_mut_ptr(),
+                ledger.len(),
+                scratch.as_mut_ptr(),
+                scratch.len(),
+                answers.as_mut_ptr(),
+                answers.len(),
             )
         })
     }

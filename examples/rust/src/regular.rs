@@ -30,8 +30,14 @@ impl Regular {
     pub fn fit(&self, vals: &[f64], coeffs: &mut [f64], scratch: &mut [f64]) -> Result<()> {
         answer(unsafe {
             ffi::corvezan_regular_fit(
-                self.dims.as_ptr(), self.dims.len(), vals.as_ptr(), vals.len(), coeffs.as_mut_ptr(), coeffs.len(),
-                scratch.as_mut_ptr(), scratch.len(),
+                self.dims.as_ptr(),
+                self.dims.len(),
+                vals.as_ptr(),
+                vals.len(),
+                coeffs.as_mut_ptr(),
+                coeffs.len(),
+                scratch.as_mut_ptr(),
+                scratch.len(),
             )
         })
     }
@@ -40,8 +46,16 @@ impl Regular {
     pub fn from_values(&self, vals: &[f64], coeffs: &mut [f64], scratch: &mut [f64]) -> Result<()> {
         answer(unsafe {
             ffi::corvezan_regular_from_values(
-                self.dims.as_ptr(), self.dims.len(), self.grid.as_ptr(), self.grid.len(), vals.as_ptr(), vals.len(),
-                coeffs.as_mut_ptr(), coeffs.len(), scratch.as_mut_ptr(), scratch.len(),
+                self.dims.as_ptr(),
+                self.dims.len(),
+                self.grid.as_ptr(),
+                self.grid.len(),
+                vals.as_ptr(),
+                vals.len(),
+                coeffs.as_mut_ptr(),
+                coeffs.len(),
+                scratch.as_mut_ptr(),
+                scratch.len(),
             )
         })
     }
@@ -50,8 +64,15 @@ impl Regular {
     pub fn begin(&self, vals: &[f64], coeffs: &mut [f64], ledger: &mut [u8], scratch_len: usize) -> Result<()> {
         answer(unsafe {
             ffi::corvezan_regular_begin(
-                self.dims.as_ptr(), self.dims.len(), vals.as_ptr(), vals.len(), coeffs.as_mut_ptr(), coeffs.len(),
-                ledger.as_mut_ptr(), ledger.len(), scratch_len,
+                self.dims.as_ptr(),
+                self.dims.len(),
+                vals.as_ptr(),
+                vals.len(),
+                coeffs.as_mut_ptr(),
+                coeffs.len(),
+                ledger.as_mut_ptr(),
+                ledger.len(),
+                scratch_len,
             )
         })
     }
@@ -62,8 +83,16 @@ impl Regular {
     ) -> Result<()> {
         answer(unsafe {
             ffi::corvezan_regular_line(
-                self.dims.as_ptr(), self.dims.len(), axis, line, coeffs.as_mut_ptr(), coeffs.len(),
-                ledger.as_mut_ptr(), ledger.len(), scratch.as_mut_ptr(), scratch.len(),
+                self.dims.as_ptr(),
+                self.dims.len(),
+                axis,
+                line,
+                coeffs.as_mut_ptr(),
+                coeffs.len(),
+                ledger.as_mut_ptr(),
+                ledger.len(),
+                scratch.as_mut_ptr(),
+                scratch.len(),
             )
         })
     }
@@ -76,9 +105,22 @@ impl Regular {
     ) -> Result<()> {
         answer(unsafe {
             ffi::corvezan_regular_list(
-                self.dims.as_ptr(), self.dims.len(), vals.as_ptr(), vals.len(), task_axes.as_ptr(), task_axes.len(),
-                task_lines.as_ptr(), task_lines.len(), coeffs.as_mut_ptr(), coeffs.len(), ledger.as_mut_ptr(),
-                ledger.len(), scratch.as_mut_ptr(), scratch.len(), answers.as_mut_ptr(), answers.len(),
+                self.dims.as_ptr(),
+                self.dims.len(),
+                vals.as_ptr(),
+                vals.len(),
+                task_axes.as_ptr(),
+                task_axes.len(),
+                task_lines.as_ptr(),
+                task_lines.len(),
+                coeffs.as_mut_ptr(),
+                coeffs.len(),
+                ledger.as_mut_ptr(),
+                ledger.len(),
+                scratch.as_mut_ptr(),
+                scratch.len(),
+                answers.as_mut_ptr(),
+                answers.len(),
             )
         })
     }

@@ -30,7 +30,8 @@ fn bits(floats: &[f64]) -> Vec<u64> {
 
 /// All lines of a map, shuffled.
 fn tasks(dims: &[usize], draw: &mut Draw) -> Vec<(usize, usize)> {
-    let mut all: Vec<_> = (0..dims.len()).flat_map(|axis| (0..lines(dims, axis)).map(move |line| (axis, line))).collect();
+    let mut all: Vec<_> =
+        (0..dims.len()).flat_map(|axis| (0..lines(dims, axis)).map(move |line| (axis, line))).collect();
     draw.shuffle(&mut all);
     all
 }
