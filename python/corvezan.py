@@ -186,7 +186,7 @@ def _output(cells, kind=c_double):
     view = _view(cells)
     format = {c_double: "d", c_uint8: "B"}[kind]
     if view is None or view.format != format or not view.c_contiguous or view.readonly:
-        raise TypeError(f"an output must be a writable buffer of type {format!r} in one piece, as array({format!r}, ..)")
+        raise TypeError(f"an output is a writable buffer of type {format!r} in one piece, as array({format!r}, ..)")
     return _shared(kind, view)
 
 

@@ -236,8 +236,8 @@ def label(picture, spot, text, others, size=13):
 # ---- what stands beside it
 
 
-def draw_legend(picture, drawn, left, top, straight):
-    """What the marks and lines mean; gives the place below."""
+def draw_legend(picture, left, top, straight):
+    """What dots and lines mean; gives the place below."""
     beyond = "a straight line" if straight else "the curve of the end"
     picture.add("circle", cx=left + 8, cy=top - 4, r=3.4, fill=INK)
     picture.text(left + 26, top, "tested")
@@ -245,11 +245,16 @@ def draw_legend(picture, drawn, left, top, straight):
     picture.text(left + 26, top + 22, "curve, between tested points")
     picture.line(left, top + 40, left + 16, top + 40, INK, 1.8, stroke_dasharray="5 4")
     picture.text(left + 26, top + 44, f"outside, {beyond}")
-    picture.text(left, top + 74, "Points that are asked for, read off the curve:", font_weight="bold")
+    return top + 74
+
+
+def draw_marks_legend(picture, left, top):
+    """What the marks of the points mean that are asked for; gives the place below."""
+    picture.text(left, top, "Points that are asked for, read off the curve:", font_weight="bold")
     for i, (word, meaning) in enumerate(SHOWN.items()):
-        draw_mark(picture, word, left + 8, top + 92 + 22 * i)
-        picture.text(left + 26, top + 97 + 22 * i, meaning)
-    return top + 97 + 22 * len(SHOWN) + 16
+        draw_mark(picture, word, left + 8, top + 18 + 22 * i)
+        picture.text(left + 26, top + 23 + 22 * i, meaning)
+    return top + 23 + 22 * len(SHOWN) + 16
 
 
 def list_rows(drawn, points, figures):
@@ -265,7 +270,7 @@ def list_rows(drawn, points, figures):
 
 
 def draw_list(picture, rows, left, top):
-    """The list in columns, set to the right but for the last; gives its right-hand and lower end."""
+    """The list in columns, set to the right but for the last; gives the place below."""
     widths = [max(text_width(row[k], 12.5) for row in rows) + 14 for k in range(len(rows[0]))]
     for i, row in enumerate(rows):
         x, y = left, top + 19 * i + (8 if i > 1 else 0)
@@ -277,9 +282,8 @@ def draw_list(picture, rows, left, top):
             at, anchor = (x - widths[k] + 14, "start") if last else (x, "end")
             if cell:
                 picture.text(at, y, cell, size=12.5, anchor=anchor, fill=fill, class_="cell", **style)
-    right = left + sum(widths)
-    picture.line(left, top + 26, right, top + 26, FAINT)
-    return right, top + 19 * len(rows) + 8
+    picture.line(left, top + 26, left + sum(widths), top + 26, FAINT)
+    return top + 19 * len(rows) + 8
 
 
 def picture_of(drawn, points, straight):
@@ -297,13 +301,13 @@ def picture_of(drawn, points, straight):
     names = [f"{text} {drawn.other.unit}" for text in drawn.other.texts]
     room = max(text_width(text, 13) for text in names + [drawn.other.name])
     left = LEFT + WIDTH + 8 + room + 12
-    below = draw_legend(picture, drawn, left, TOP, straight)
-    right = max(box[2] for box in picture.boxes)
+    below = draw_legend(picture, left, TOP, straight)
     if points:
-        right, below = draw_list(picture, list_rows(drawn, points, figures), left, below)
+        below = draw_marks_legend(picture, left, below)
+        below = draw_list(picture, list_rows(drawn, points, figures), left, below)
     title = f"{drawn.table.figure} over {drawn.axis.name}: a curve for each tested {drawn.other.name}"
     picture.text(LEFT, 32, title, size=17, font_weight="bold")
-    right = max(right, *(box[2] for box in picture.boxes))
+    right = max(box[2] for box in picture.boxes)
     return picture.whole(right + 24, max(TOP + HEIGHT + BELOW, below + 24), title)
 
 

@@ -61,7 +61,7 @@ class Contents(unittest.TestCase):
     def test_a_table_without_points(self):
         root = drawn(TABLE)
         self.assertEqual((len(of_class(root, "asked")), len(of_class(root, "cell"))), (0, 0))
-        self.assertEqual(len(of_class(root, "tested")), 30 + 1)
+        self.assertEqual(len(of_class(root, "tested")), 30)
 
     def test_marks_by_word(self):
         root = drawn()
