@@ -236,7 +236,7 @@ def label(picture, spot, text, others, size=13):
 # ---- what stands beside it
 
 
-def draw_legend(picture, left, top, straight):
+def draw_legend(picture, drawn, left, top, straight):
     """What dots and lines mean; gives the place below."""
     beyond = "a straight line" if straight else "the curve of the end"
     picture.add("circle", cx=left + 8, cy=top - 4, r=3.4, fill=INK)
@@ -245,7 +245,9 @@ def draw_legend(picture, left, top, straight):
     picture.text(left + 26, top + 22, "curve, between tested points")
     picture.line(left, top + 40, left + 16, top + 40, INK, 1.8, stroke_dasharray="5 4")
     picture.text(left + 26, top + 44, f"outside, {beyond}")
-    return top + 74
+    picture.add("rect", x=left, y=top + 56, width=16, height=12, fill=SHADE, stroke=FAINT)
+    picture.text(left + 26, top + 66, f"outside the tested {drawn.axis.name}")
+    return top + 96
 
 
 def draw_marks_legend(picture, left, top):
@@ -301,11 +303,12 @@ def picture_of(drawn, points, straight):
     names = [f"{text} {drawn.other.unit}" for text in drawn.other.texts]
     room = max(text_width(text, 13) for text in names + [drawn.other.name])
     left = LEFT + WIDTH + 8 + room + 12
-    below = draw_legend(picture, left, TOP, straight)
+    below = draw_legend(picture, drawn, left, TOP, straight)
     if points:
         below = draw_marks_legend(picture, left, below)
         below = draw_list(picture, list_rows(drawn, points, figures), left, below)
-    title = f"{drawn.table.figure} over {drawn.axis.name}: a curve for each tested {drawn.other.name}"
+    figure = drawn.table.figure[:1].upper() + drawn.table.figure[1:]
+    title = f"{figure} over {drawn.axis.name}: a curve for each tested {drawn.other.name}"
     picture.text(LEFT, 32, title, size=17, font_weight="bold")
     right = max(box[2] for box in picture.boxes)
     return picture.whole(right + 24, max(TOP + HEIGHT + BELOW, below + 24), title)

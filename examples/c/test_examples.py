@@ -97,7 +97,7 @@ class TaskSlice(unittest.TestCase):
         return {n: numbers.count(n) for n in set(numbers)}
 
     def test_any_order_and_any_budget(self):
-        for seed in range(1, 13):
+        for seed in [1] if UNDER else range(1, 13):
             for lines in (1, 3, 50):
                 status, log, fault = run("task_slice", TABLE, "seed", seed, "lines", lines)
                 self.assertEqual((status, fault), (0, ""), log)
@@ -130,7 +130,7 @@ class TaskSlice(unittest.TestCase):
         self.assertTrue(log.endswith(self.LAST))
 
     def test_a_lost_task_ends_the_loop(self):
-        ends = {run("task_slice", TABLE, "seed", seed, "lost", 8)[0] for seed in range(8)}
+        ends = {run("task_slice", TABLE, "seed", seed, "lost", 8)[0] for seed in range(1 if UNDER else 8)}
         self.assertEqual(ends, {1})
         fault = run("task_slice", TABLE, "lost", 8)[2]
         self.assertIn("The fit is not finished", fault)
