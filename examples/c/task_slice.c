@@ -162,8 +162,8 @@ static void print_answers(const struct job *job) {
     printf("\n");
     for (answer = 0; answer < NUMBERS; answer++) {
         if (job->seen[answer] > 0) {
-            printf("%lu calls answered %lu: %s.\n", (unsigned long)job->seen[answer], (unsigned long)answer,
-                   explain(answer));
+            printf("%lu %s answered %lu: %s.\n", (unsigned long)job->seen[answer],
+                   job->seen[answer] == 1 ? "call" : "calls", (unsigned long)answer, explain(answer));
         }
     }
 }
@@ -240,7 +240,7 @@ int main(int argc, char **argv) {
     }
     print_answers(job);
     if (done(job) != AXES * job->points) {
-        fprintf(stderr, "The fit is not finished: %lu tasks wait for a line that is on no list.\n",
+        fprintf(stderr, "The fit is not finished: lines are missing from the list; %lu tasks wait for them.\n",
                 (unsigned long)job->tasks.count);
         return 1;
     }

@@ -138,7 +138,7 @@ class TaskSlice(unittest.TestCase):
     def test_numbers_are_explained(self):
         log = run("task_slice", TABLE)[1]
         for number in set(self.answers(log)):
-            self.assertRegex(log, rf"calls answered {number}: [a-z ]+")
+            self.assertRegex(log, rf"[1-9]\d* calls? answered {number}: [a-z ]+")
 
     def test_refused_table(self):
         with tempfile.TemporaryDirectory() as folder:

@@ -21,5 +21,6 @@ int untouched(const double *cells, size_t n);
 void test_shape(void);
 void test_regular(void);
 void test_rectilinear(void);
+void test_words(void);
 
 #endif

@@ -32,6 +32,7 @@ int main(void) {
     test_shape();
     test_regular();
     test_rectilinear();
+    test_words();
     printf("%d failed\n", failures);
     return failures == 0 ? 0 : 1;
 }
