@@ -27,6 +27,11 @@ mod refusal;
 mod regular;
 mod shape;
 
+/// The code in the crate's page is compiled with the tests.
+#[cfg(doctest)]
+#[doc = include_str!("../README.md")]
+struct ReadMe;
+
 pub use rectilinear::Rectilinear;
 pub use refusal::{Refusal, Result};
 pub use regular::Regular;
