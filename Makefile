@@ -34,10 +34,12 @@ CALLS = $(addprefix examples/c/tests/,main.c shape.c regular.c rectilinear.c wor
 C_HEADERS = $(HEADER) $(wildcard examples/c/*.h examples/c/tests/*.h)
 PROGRAMS = rating_sheet task_slice calls calls_cxx
 
+HEAT_PUMP = examples/heat_pump
 SANITIZERS = -fsanitize=address,undefined -fno-sanitize-recover=all -O1 -g
 MEMCHECK = $(VALGRIND) --quiet --error-exitcode=99 --leak-check=full --errors-for-leak-kinds=all
 
-.PHONY: all help examples shared install uninstall test test-header test-c test-rust test-python sanitize memcheck clean
+.PHONY: all help examples shared install uninstall sanitize memcheck clean
+.PHONY: test test-header test-c test-install test-rust test-python
 .DELETE_ON_ERROR:
 
 all: $(LIBRARY)
@@ -109,7 +111,7 @@ uninstall:
 
 # ---- tests
 
-test: test-header test-c test-rust test-python
+test: test-header test-c test-install test-rust test-python
 
 # The header by itself, in both languages: it needs nothing to be included before it.
 test-header:
@@ -120,6 +122,19 @@ test-c: $(addprefix $(BIN)/,$(PROGRAMS))
 	$(BIN)/calls
 	$(BIN)/calls_cxx
 	cd examples/c && CORVEZAN_BIN=$(CURDIR)/$(BIN) $(PYTHON) -m unittest
+
+# Installs into a folder of its own, builds the first example over it by pkg-config alone, and takes it away again.
+test-install: TRIED = $(CURDIR)/$(OUT)/tried
+test-install: $(LIBRARY)
+	rm -rf $(TRIED)
+	$(MAKE) install PREFIX=$(TRIED) DESTDIR=
+	$(CC) -std=c99 -o $(TRIED)/rating_sheet $(SHEET) \
+	    $$(PKG_CONFIG_PATH=$(TRIED)/lib/pkgconfig pkg-config --cflags --libs corvezan)
+	$(TRIED)/rating_sheet $(HEAT_PUMP)/compressor.csv $(HEAT_PUMP)/points.csv > $(TRIED)/sheet
+	diff $(TRIED)/sheet $(HEAT_PUMP)/stored/straight.sheet
+	rm $(TRIED)/rating_sheet $(TRIED)/sheet
+	$(MAKE) uninstall PREFIX=$(TRIED) DESTDIR=
+	test -z "$$(find $(TRIED) -type f)"
 
 test-rust: $(LIBRARY)
 	cd examples/rust && CORVEZAN_LIB_DIR=$(CURDIR)/$(OUT) CARGO_TARGET_DIR=$(CURDIR)/$(OUT)/cargo $(CARGO) test --offline
