@@ -30,7 +30,7 @@ SOURCES = crates.txt $(wildcard crates/*/src/*.rt crates/*/specs/*.antt crates/*
 PARTS = examples/c/explain.c examples/c/cells.c examples/c/table.c
 SHEET = examples/c/rating_sheet.c examples/c/layout.c examples/c/place.c $(PARTS)
 SLICE = examples/c/task_slice.c examples/c/tasks.c $(PARTS)
-CALLS = $(addprefix examples/c/tests/,main.c shape.c regular.c rectilinear.c words.c) examples/c/explain.c
+CALLS = $(addprefix examples/c/tests/,main.c shape.c regular.c rectilinear.c words.c edges.c) examples/c/explain.c
 C_HEADERS = $(HEADER) $(wildcard examples/c/*.h examples/c/tests/*.h)
 PROGRAMS = rating_sheet task_slice calls calls_cxx
 

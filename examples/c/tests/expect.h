@@ -22,5 +22,6 @@ void test_shape(void);
 void test_regular(void);
 void test_rectilinear(void);
 void test_words(void);
+void test_edges(void);
 
 #endif

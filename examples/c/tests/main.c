@@ -33,6 +33,7 @@ int main(void) {
     test_regular();
     test_rectilinear();
     test_words();
+    test_edges();
     printf("%d failed\n", failures);
     return failures == 0 ? 0 : 1;
 }
