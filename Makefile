@@ -39,7 +39,7 @@ SANITIZERS = -fsanitize=address,undefined -fno-sanitize-recover=all -O1 -g
 MEMCHECK = $(VALGRIND) --quiet --error-exitcode=99 --leak-check=full --errors-for-leak-kinds=all
 
 .PHONY: all help examples shared install uninstall sanitize memcheck clean
-.PHONY: test test-header test-c test-install test-rust test-python
+.PHONY: test test-header test-symbols test-c test-install test-rust test-python
 .DELETE_ON_ERROR:
 
 all: $(LIBRARY)
@@ -111,12 +111,19 @@ uninstall:
 
 # ---- tests
 
-test: test-header test-c test-install test-rust test-python
+test: test-header test-symbols test-c test-install test-rust test-python
 
 # The header by itself, in both languages: it needs nothing to be included before it.
 test-header:
 	$(CC) $(C99) -fsyntax-only -x c $(HEADER)
 	$(CXX) $(CXX17) -fsyntax-only -x c++ $(HEADER)
+
+# The archive has the functions of the header and no other name, and asks for nothing but memcpy and memset.
+test-symbols: $(LIBRARY)
+	sed -n 's/^[a-z0-9_]* \(corvezan_[a-z_]*\)(.*/\1/p' $(HEADER) | sort > $(OUT)/declared
+	nm --extern-only --defined-only $(LIBRARY) | awk 'NF == 3 { print $$3 }' | sort > $(OUT)/defined
+	diff $(OUT)/declared $(OUT)/defined
+	nm --undefined-only $(LIBRARY) | awk 'NF == 2 { print $$2 }' | grep -v -x -e memcpy -e memset; test $$? = 1
 
 test-c: $(addprefix $(BIN)/,$(PROGRAMS))
 	$(BIN)/calls
