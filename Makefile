@@ -61,9 +61,12 @@ target/staticlib/libcapi.a: $(SOURCES)
 	rt staticlib capi
 	touch $@
 
-$(LIBRARY): $(ARCHIVE)
+# Compared each time, as ARCHIVE may name another file than the last time, and an older one.
+$(LIBRARY): $(ARCHIVE) FORCE
 	@mkdir -p $(@D)
-	cp $(ARCHIVE) $@
+	cmp -s $(ARCHIVE) $@ || cp $(ARCHIVE) $@
+
+FORCE:
 
 # Only the functions of the header are seen from outside.
 $(OUT)/exports:
