@@ -7,3 +7,4 @@ pub use next::Next;
 pub use next::next_record;
 pub use tally::Outcome;
 pub use tally::Tally;
+pub use tally::judge;

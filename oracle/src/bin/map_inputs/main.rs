@@ -1,6 +1,7 @@
 // Writes inputs of the map program into a folder, valid, refused and damaged ones, and their counts to standard error. What
 // is drawn follows from the seed alone. ../../../README.md describes them.
 mod ends;
+mod exact;
 mod folder;
 mod heads;
 mod input;

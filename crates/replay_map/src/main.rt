@@ -1,0 +1,41 @@
+// Replays the list of inputs of the map program in cases.txt: runs the program's work on each, compares what it prints with
+// what the list says, byte for byte, and prints how many cases there were and how many differ. The list comes from the folder
+// oracle/, whose README describes it.
+mod case;
+mod compare;
+
+use case::replay_next;
+use libc::STDOUT_FILENO;
+use oracle_run::Tally;
+
+// A list with more cases than this is not read to its end, and so counts as unreadable.
+const MOST_CASES: usize = 1000000;
+
+// Replays the cases one after the other, up to the end of the list or the first that cannot be read.
+fn replay_all(fd: i32, text: &mut [u8]) -> Tally {
+    let mut tally = Tally::new();
+    let mut left = MOST_CASES;
+    while left > 0 {
+        left -= 1;
+        let outcome = replay_next(fd, text);
+        tally = tally.with(outcome);
+        if !tally.is_going {
+            return tally;
+        }
+    }
+    tally
+}
+
+fn main() {
+    let path = b"cases.txt";
+    let fd = os::open_read(path);
+    if fd < 0 {
+        os::fail(path);
+        io::write_all(STDOUT_FILENO, b"unreadable,0\n");
+        return;
+    }
+    let mut text = [0u8; 138507];
+    let tally = replay_all(fd, &mut text);
+    libc::close(fd);
+    tally.print(b"ends in T,", b"ends in M,", b"ends in X,");
+}
