@@ -1,3 +1,4 @@
 pub mod Rows
+pub mod Sweeps
 pub mod FitChecks
 pub mod Total

@@ -1,6 +1,6 @@
 // The whole fit: the lines of each axis solved in turn, axis 0 first.
 ghost use mathlib.Core.Path.{_≡_};
-ghost use Prim.Native.Nat.{_-_, _*_, _≤_, _<_};
+ghost use Prim.Native.Nat.{_-_, _*_, _/_, _≤_, _<_};
 ghost use lib.ListN.{length, take};
 ghost use lib.Ieee.{binary64, nan};
 ghost use Rattle.shape.specs.Shape.{longest, size, firstCell};
@@ -8,9 +8,14 @@ ghost use Rattle.shape.specs.Checks.{regularFitChecks, firstRefusal};
 ghost use Rattle.shape.specs.Fit.{solveLine, solveLines, lineLeaves, solveAxis, axisScratch, fitAfter, scratchAfter};
 ghost use Rattle.shape.specs.Usable.{Usable, LinesWithin};
 ghost use Rattle.shape.specs.Refusal.{answerNumber};
+ghost use Rattle.lanes.specs.Lanes.{Uppers};
 ghost use Rattle.regular.specs.Rows.{coefficient, upperNumber};
 ghost use Rattle.regular.specs.Fit.{solve, upper, regularFit, regularScratch, RegularFitted};
+use crate::bundle::solve_ends;
 use crate::line::solve_checked;
+use crate::slab::solve_slabs;
+use crate::upper::upper_numbers;
+use lanes::keep_line;
 use multibspline::copy;
 use shape::Answer;
 use shape::Refusal;
@@ -53,15 +58,30 @@ pub fn solve_nth(
     solve_checked(base, s, n, m, coeffs, scratch);
 }
 
-// All the lines of an axis of n points that are s apart.
+// All the lines of an axis of n points that are s apart, in place, with the upper numbers at hand.
+fn solve_in_place(n: usize, s: usize, lines: usize, upper: &[f64], coeffs: &mut [f64])
+    requires { ⌜ (4 ≤ n) × (0 < s) × (lines / s * s ≡ lines) × (lines * n ≤ length (now coeffs)) ⌝ }
+    requires { ⌜ Uppers (upperNumber binary64 n) n (now upper) ⌝ }
+    ensures { λ _. ⌜ now (coeffs .exit) ≡ solveLines nan (coefficient binary64 n) n s lines (now (coeffs .entry)) ⌝ }
+{
+    if s == 1 {
+        solve_ends(n, lines, upper, coeffs);
+    } else {
+        solve_slabs(n, s, lines / s, upper, coeffs);
+    }
+}
+
+// All the lines of an axis of n points that are s apart. What stays in scratch is what the last line, solved alone, would leave.
 fn solve_lines(n: usize, s: usize, lines: usize, m: usize, coeffs: &mut [f64], scratch: &mut [f64])
     requires { ⌜ (0 < lines) × LinesWithin n s lines m (length (now coeffs)) (length (now scratch)) ⌝ }
+    requires { ⌜ lines / s * s ≡ lines ⌝ }
     ensures { λ _. ⌜ now (coeffs .exit) ≡ solveLines nan (coefficient binary64 n) n s lines (now (coeffs .entry)) ⌝ }
     ensures { λ _. ⌜ now (scratch .exit) ≡ lineLeaves nan (upperNumber binary64 n) (coefficient binary64 n) n s m (lines - 1) (now (coeffs .entry)) (now (scratch .entry)) ⌝ }
 {
-    for l in 0..lines {
-        solve_nth(n, s, lines, m, l, coeffs, scratch);
-    }
+    upper_numbers(n, scratch);
+    solve_in_place(n, s, lines, scratch, coeffs);
+    let base = shape::first_cell_of(n, s, lines - 1);
+    keep_line(base, s, n, m, coeffs, scratch);
 }
 
 // All the lines of one axis of a map.

@@ -6,6 +6,7 @@ use lib.Ieee.{binary64, nan}
 use borrow.Author.Needs.{needs}
 use Rattle.shape.proofs.Accepted.{AxisIs, axis-is, axis-within}
 use Rattle.shape.proofs.Lines.{axis-coefs, axis-scratch}
+use Rattle.lanes.proofs.Groups.{axis-whole}
 use Rattle.regular.specs.Rows.{coefficient, upperNumber}
 use Rattle.regular.specs.Fit.{solve, upper}
 use Rattle.regular.proofs.fit.solve_axis.Statement.{statement}
@@ -20,7 +21,8 @@ solve-lines-requires c κs =
     let a = t .args in
     let four : length (a .t2) ≡ 4 = omega (arith, t .good) in
     let x = axis-is (a .count) (a .t2) four (t .pre .0 .1) (a .axis) (t .pre .0 .0) refl (s .stride .ensures) (l .lines .ensures) (m .longest .ensures) in
-    axis-within (a .count) (a .t2) four (t .pre .0 .1) (a .axis) (t .pre .0 .0) x (t .pre .1 .0) (t .pre .1 .1)
+    let inside = axis-within (a .count) (a .t2) four (t .pre .0 .1) (a .axis) (t .pre .0 .0) x (t .pre .1 .0) (t .pre .1 .1) in
+    (inside, axis-whole x (inside .1 .stride-pos))
 
 returns : tie.Need-returns
 returns c =
