@@ -1,4 +1,5 @@
 pub mod Rows
+pub mod Sweeps
 pub mod Axis
 pub mod FitChecks
 pub mod Total

@@ -1,6 +1,6 @@
 // The whole fit: the lines of each axis solved in turn, axis 0 first.
 ghost use mathlib.Core.Path.{_≡_};
-ghost use Prim.Native.Nat.{_-_, _*_, _≤_, _<_};
+ghost use Prim.Native.Nat.{_-_, _*_, _/_, _≤_, _<_};
 ghost use lib.ListN.{length, take};
 ghost use lib.Ieee.{binary64, nan};
 ghost use Rattle.shape.specs.Shape.{longest, size, firstCell};
@@ -8,14 +8,19 @@ ghost use Rattle.shape.specs.Checks.{firstRefusal};
 ghost use Rattle.shape.specs.Fit.{solveLine, solveLines, lineLeaves, solveAxis, axisScratch};
 ghost use Rattle.shape.specs.Usable.{Usable, LinesWithin};
 ghost use Rattle.shape.specs.Refusal.{answerNumber};
+ghost use Rattle.lanes.specs.Lanes.{Uppers};
 ghost use Rattle.knots.specs.Joined.{total};
 ghost use Rattle.rectilinear_weights.specs.Ghosts.{ghostNumbers};
 ghost use Rattle.rectilinear.specs.Rows.{coefficient, upperNumber};
 ghost use Rattle.rectilinear.specs.Fit.{solve, upper, rectilinearFit, rectilinearScratch, rectilinearFitChecks, RectilinearFitted};
+use crate::bundle::solve_ends;
 use crate::line::solve_checked;
+use crate::slab::solve_slabs;
+use crate::upper::upper_numbers;
 use knots::all_rise;
 use knots::axis_knots;
 use knots::grid_len;
+use lanes::keep_line;
 use multibspline::copy;
 use rectilinear_weights::Ghost;
 use rectilinear_weights::high_ghost_coeffs;
@@ -77,7 +82,28 @@ pub fn solve_nth(
     solve_checked(grid, low_ghost, high_ghost, base, s, m, coeffs, scratch);
 }
 
-// All the lines of an axis with the given knots.
+// All the lines of an axis with the given knots, in place, with the upper numbers at hand.
+fn solve_in_place(
+    grid: &[f64],
+    low_ghost: Ghost,
+    high_ghost: Ghost,
+    s: usize,
+    lines: usize,
+    upper: &[f64],
+    coeffs: &mut [f64],
+)
+    requires { ⌜ (4 ≤ length (now grid)) × (0 < s) × (lines / s * s ≡ lines) × (lines * length (now grid) ≤ length (now coeffs)) ⌝ }
+    requires { ⌜ Uppers (upperNumber binary64 (now grid) (ghostNumbers «low_ghost») (ghostNumbers «high_ghost»)) (length (now grid)) (now upper) ⌝ }
+    ensures { λ _. ⌜ now (coeffs .exit) ≡ solveLines nan (coefficient binary64 (now (grid .entry)) (ghostNumbers «low_ghost») (ghostNumbers «high_ghost»)) (length (now (grid .entry))) s lines (now (coeffs .entry)) ⌝ }
+{
+    if s == 1 {
+        solve_ends(grid, low_ghost, high_ghost, lines, upper, coeffs);
+    } else {
+        solve_slabs(grid, low_ghost, high_ghost, s, lines / s, upper, coeffs);
+    }
+}
+
+// All the lines of an axis with the given knots. What stays in scratch is what the last line, solved alone, would leave.
 fn solve_lines(
     grid: &[f64],
     low_ghost: Ghost,
@@ -89,12 +115,15 @@ fn solve_lines(
     scratch: &mut [f64],
 )
     requires { ⌜ (0 < lines) × LinesWithin (length (now grid)) s lines m (length (now coeffs)) (length (now scratch)) ⌝ }
+    requires { ⌜ lines / s * s ≡ lines ⌝ }
     ensures { λ _. ⌜ now (coeffs .exit) ≡ solveLines nan (coefficient binary64 (now (grid .entry)) (ghostNumbers «low_ghost») (ghostNumbers «high_ghost»)) (length (now (grid .entry))) s lines (now (coeffs .entry)) ⌝ }
     ensures { λ _. ⌜ now (scratch .exit) ≡ lineLeaves nan (upperNumber binary64 (now (grid .entry)) (ghostNumbers «low_ghost») (ghostNumbers «high_ghost»)) (coefficient binary64 (now (grid .entry)) (ghostNumbers «low_ghost») (ghostNumbers «high_ghost»)) (length (now (grid .entry))) s m (lines - 1) (now (coeffs .entry)) (now (scratch .entry)) ⌝ }
 {
-    for l in 0..lines {
-        solve_nth(grid, low_ghost, high_ghost, s, lines, m, l, coeffs, scratch);
-    }
+    let n = grid.len();
+    upper_numbers(grid, low_ghost, high_ghost, scratch);
+    solve_in_place(grid, low_ghost, high_ghost, s, lines, scratch, coeffs);
+    let base = shape::first_cell_of(n, s, lines - 1);
+    keep_line(base, s, n, m, coeffs, scratch);
 }
 
 // All the lines of one axis of a map on a joined grid. The ghost numbers are worked out once.

@@ -31,7 +31,7 @@ pub struct Row {
 }
 
 // The first row, from the weights at the first knot and at the second.
-fn low_row(w: [f64; 4], v: [f64; 4], low_ghost: Ghost, y0: f64, y1: f64) -> Row
+pub fn low_row(w: [f64; 4], v: [f64; 4], low_ghost: Ghost, y0: f64, y1: f64) -> Row
     ensures { λ r. ⌜ rowOf r ≡ lowRow binary64 w v (ghostNumbers «low_ghost») y0 y1 ⌝ }
 {
     let e0 = w[1] + w[0] * low_ghost.p0;
@@ -47,7 +47,7 @@ fn low_row(w: [f64; 4], v: [f64; 4], low_ghost: Ghost, y0: f64, y1: f64) -> Row
 }
 
 // The last row, from the weights at the last knot and at the one before.
-fn high_row(w: [f64; 4], v: [f64; 4], high_ghost: Ghost, before: f64, y: f64) -> Row
+pub fn high_row(w: [f64; 4], v: [f64; 4], high_ghost: Ghost, before: f64, y: f64) -> Row
     ensures { λ r. ⌜ rowOf r ≡ highRow binary64 w v (ghostNumbers «high_ghost») before y ⌝ }
 {
     let e0 = w[0] + w[3] * high_ghost.p0;
@@ -63,7 +63,7 @@ fn high_row(w: [f64; 4], v: [f64; 4], high_ghost: Ghost, before: f64, y: f64) ->
 }
 
 // The weights of a span at a knot.
-fn at_knot(grid: &[f64], span: usize, k: usize) -> [f64; 4]
+pub fn at_knot(grid: &[f64], span: usize, k: usize) -> [f64; 4]
     requires { ⌜ (4 ≤ length (now grid)) × (span + 1 < length (now grid)) × (k < length (now grid)) ⌝ }
     ensures { λ r. ⌜ r ≡ atKnot binary64 (now (grid .entry)) span k ⌝ }
 {

@@ -7,6 +7,7 @@ use lib.Ieee.{binary64, nan}
 use borrow.Author.Needs.{needs}
 use Rattle.shape.proofs.Accepted.{axis-is, axis-within}
 use Rattle.shape.proofs.Lines.{axis-coefs, axis-scratch}
+use Rattle.lanes.proofs.Groups.{axis-whole}
 use Rattle.rectilinear.specs.Fit.{solve, upper}
 use Rattle.rectilinear.proofs.Axis.{knots-are, knots-long, upper-is, solve-is}
 use Rattle.rectilinear.proofs.fit.solve_axis.Statement.{statement}
@@ -36,7 +37,8 @@ solve-lines-requires c κs =
     let four : length (a .dims) ≡ 4 = omega (arith, t .good) in
     let n = knots-are (a .count) (a .dims) four (t .pre .0 .1) (a .axis) (t .pre .0 .0) (now (a .grid)) (t .pre .0 .2) (k .axis-knots .ensures) in
     let x = axis-is (a .count) (a .dims) four (t .pre .0 .1) (a .axis) (t .pre .0 .0) n (s .stride .ensures) (l .lines .ensures) (m .longest .ensures) in
-    axis-within (a .count) (a .dims) four (t .pre .0 .1) (a .axis) (t .pre .0 .0) x (t .pre .1 .0) (t .pre .1 .1)
+    let inside = axis-within (a .count) (a .dims) four (t .pre .0 .1) (a .axis) (t .pre .0 .0) x (t .pre .1 .0) (t .pre .1 .1) in
+    (inside, axis-whole x (inside .1 .stride-pos))
 
 returns : tie.Need-returns
 returns c =

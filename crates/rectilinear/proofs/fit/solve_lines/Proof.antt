@@ -1,45 +1,72 @@
-use Prim.Native.Nat.{_-_}
+use native.Mathlib.Omega.{arith}
 use borrow.Author.Needs.{needs}
 use denote.Ref.{now}
 use lib.ListN.{length}
-use lib.Ieee.{binary64, nan}
-use Rattle.shape.proofs.Lines.{FitLines, lines-start, lines-within, lines-step, lines-coefs, lines-scratch}
+use lib.Ieee.{binary64}
+use Rattle.shape.proofs.Lines.{first-cell-room}
+use Rattle.lanes.specs.Lanes.{zeros}
+use Rattle.lanes.proofs.Groups.{lines-room, uppers-hold, keep-room, axis-leaves}
 use Rattle.rectilinear_weights.specs.Ghosts.{ghostNumbers}
 use Rattle.rectilinear.specs.Rows.{coefficient, upperNumber}
-use Rattle.rectilinear.proofs.Rows.{looks-upper, looks-coefficient}
+use Rattle.rectilinear.proofs.Rows.{looks-coefficient}
+use Rattle.rectilinear.proofs.Sweeps.{upper-same}
 use Rattle.rectilinear.proofs.fit.solve_lines.Statement.{statement}
 use Rattle.rectilinear.proofs.fit.solve_lines.Tie as tie
 
-abbrev Inv : tie.InvT-loop
-Inv grid low-ghost high-ghost s lines m coeffs₀ scratch₀ l₀ coeffs scratch l =
-    FitLines nan (upperNumber binary64 grid (ghostNumbers low-ghost) (ghostNumbers high-ghost)) (coefficient binary64 grid (ghostNumbers low-ghost) (ghostNumbers high-ghost)) (length grid) s m lines coeffs₀ scratch₀ coeffs scratch l
+upper-numbers-requires : tie.Need-upper-numbers-requires
+upper-numbers-requires c κs = let w = c .before .before .before .before .pre .0 .1 in (w .four-points, omega (arith, w .upper-room, w .right-room))
 
-abbrev μ : tie.MeasureT-loop
-μ grid low-ghost high-ghost s lines m coeffs₀ scratch₀ l₀ coeffs scratch l = lines - l
-
-solve-nth-requires : tie.Need-solve-nth-requires Inv μ
-solve-nth-requires c κs =
-    let t = c .before .before in
-    (t .loop-test .taken, lines-within nan _ _ _ _ _ (t .before .loop .inv))
-
-loop-again : tie.Need-loop-again Inv μ
-loop-again c =
-    let w = c .before .before .before .before in
-    let t = w .before .before .before in
-    let r = t .before .loop .inv in
-    let a = t .before .before .before .before .before .args in
+solve-in-place-requires : tie.Need-solve-in-place-requires
+solve-in-place-requires c κs =
+    let up = c .before .before .before .before in
+    let start = up .before .before .before .before .before in
+    let a = start .args in
+    let ks = now (a .grid) in
     let low = ghostNumbers (a .low-ghost) in
     let high = ghostNumbers (a .high-ghost) in
-    let four = r .within .four-points in
-    lines-step nan _ _ _ _ _ (looks-upper binary64 (now (a .grid)) low high four) (looks-coefficient binary64 (now (a .grid)) low high four) r (t .loop-test .taken) (w .solve-nth .ensures .0) (w .solve-nth .ensures .1)
+    let pos = start .pre .0 .0 in
+    let w = start .pre .0 .1 in
+    let whole = start .pre .1 in (
+      (w .four-points, w .stride-pos, whole, lines-room w pos whole),
+      uppers-hold (upperNumber binary64 ks low high) (length ks) (now (a .scratch)) _ (upper-same binary64 ks low high zeros) (up .upper-numbers .ensures) (omega (arith, w .upper-room, w .right-room)),
+    )
 
-returns : tie.Need-returns Inv μ
+first-cell-of-requires : tie.Need-first-cell-of-requires
+first-cell-of-requires c κs =
+    let start = c .before .before .before .before .before .before .before .before .before .before .before .before in
+    first-cell-room (start .pre .0 .1) (let pos = start .pre .0 .0 in omega arith)
+
+keep-line-requires : tie.Need-keep-line-requires
+keep-line-requires c κs =
+    let base = c .before .before in
+    let solved = base .before .before .before in
+    let up = solved .before .before .before .before .before in
+    let start = up .before .before .before .before .before in
+    let a = start .args in
+    let ks = now (a .grid) in
+    let low = ghostNumbers (a .low-ghost) in
+    let high = ghostNumbers (a .high-ghost) in
+    keep-room (coefficient binary64 ks low high) (length ks) (a .s) (a .lines) (a .m) _ (now (a .coeffs)) (now (a .scratch)) _ _ (upperNumber binary64 ks low high zeros) (start .pre .0 .1) (start .pre .0 .0)
+    (base .first-cell-of .ensures) (solved .solve-in-place .ensures) (up .upper-numbers .ensures)
+
+returns : tie.Need-returns
 returns c =
-    let r = c .before .loop .inv in
-    let pos = c .before .before .before .before .before .pre .0 in
-    (lines-coefs nan _ _ _ _ _ r (c .loop-test .left), lines-scratch nan _ _ _ _ _ r (c .loop-test .left) pos)
+    let kept = c .before .before in
+    let base = kept .before .before .before in
+    let solved = base .before .before .before in
+    let up = solved .before .before .before .before .before in
+    let start = up .before .before .before .before .before in
+    let a = start .args in
+    let ks = now (a .grid) in
+    let low = ghostNumbers (a .low-ghost) in
+    let high = ghostNumbers (a .high-ghost) in
+    let w = start .pre .0 .1 in (
+      solved .solve-in-place .ensures,
+      axis-leaves (upperNumber binary64 ks low high) (coefficient binary64 ks low high) (length ks) (a .s) (a .lines) (a .m) (now (a .coeffs)) (now (a .scratch)) w (start .pre .0 .0) (looks-coefficient binary64 ks low high (w .four-points))
+          _ _ _ _ (upper-same binary64 ks low high zeros) (base .first-cell-of .ensures) (up .upper-numbers .ensures) (solved .solve-in-place .ensures) (kept .keep-line .ensures),
+    )
 
 pub solve-lines-spec : {M : Type 1} → statement M
 solve-lines-spec =
     tie.close
-    (tie.spec Inv μ (λ c. lines-start nan _ _ _ _ _ (c .before .before .before .pre .1)) solve-nth-requires (λ c. search needs) (λ c. search needs) loop-again (λ c. c .before .loop .inv .length-xs) (λ c. c .before .loop .inv .length-ss) returns)
+    (tie.spec upper-numbers-requires solve-in-place-requires (λ c. search needs) first-cell-of-requires keep-line-requires (λ c. search needs) (λ c. search needs) returns)
