@@ -121,12 +121,9 @@ test-header:
 	$(CC) $(C99) -fsyntax-only -x c $(HEADER)
 	$(CXX) $(CXX17) -fsyntax-only -x c++ $(HEADER)
 
-# The archive has the functions of the header and no other name, and asks for nothing but memcpy and memset.
+# The archive has the functions of the header and no other name, and each declaration agrees with its source.
 test-symbols: $(LIBRARY)
-	sed -n 's/^[a-z0-9_]* \(corvezan_[a-z_]*\)(.*/\1/p' $(HEADER) | sort > $(OUT)/declared
-	nm --extern-only --defined-only $(LIBRARY) | awk 'NF == 3 { print $$3 }' | sort > $(OUT)/defined
-	diff $(OUT)/declared $(OUT)/defined
-	nm --undefined-only $(LIBRARY) | awk 'NF == 2 { print $$2 }' | grep -v -x -e memcpy -e memset; test $$? = 1
+	sh tools/symbols.sh $(LIBRARY)
 
 test-c: $(addprefix $(BIN)/,$(PROGRAMS))
 	$(BIN)/calls

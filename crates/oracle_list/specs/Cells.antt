@@ -13,6 +13,13 @@ half = fin false 1 (negsuc 0)
 abbrev pub one : Float
 one = fin false 1 (pos 0)
 
+-- -1/4 and -1
+abbrev pub minusQuarter : Float
+minusQuarter = fin true 1 (negsuc 1)
+
+abbrev pub minusOne : Float
+minusOne = fin true 1 (pos 0)
+
 -- n cells that count from x on, by a step
 unfoldable pub counted : Float → Float → ℕ → List Float
 counted x step zero = []

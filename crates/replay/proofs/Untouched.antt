@@ -4,8 +4,8 @@ use mathlib.Core.Bool.{Bool, true, false}
 use mathlib.Core.List.{List}
 use lib.ListN.{length}
 use lib.Ieee.{Float}
-use Rattle.oracle_list.specs.Cells.{half, one, counted, sameCells}
-use Rattle.replay.specs.Expected.{minusQuarter, minusOne, isUntouched}
+use Rattle.oracle_list.specs.Cells.{half, one, counted, sameCells, minusQuarter, minusOne}
+use Rattle.replay.specs.Expected.{isUntouched}
 
 module _ (coefs scratch : List Float) (a : Bool) (e : a ≡ sameCells coefs (counted half one (length coefs))) where
   pub Untouched-first : a ≡ false → false ≡ isUntouched coefs scratch

@@ -1,21 +1,13 @@
 -- What a record of the list expects. Assumes nothing.
 use mathlib.Core.Path.{_≡_}
-use mathlib.Core.Bool.{Bool, true, false, _&&_}
+use mathlib.Core.Bool.{Bool, _&&_}
 use mathlib.Core.List.{List, [], _∷_}
 use Prim.Native.Nat.{ℕ, _+_}
-use lib.IntN.{pos, negsuc}
 use lib.ListN.{length, getD}
-use lib.Ieee.{Float, fin}
+use lib.Ieee.{Float}
 use Rattle.float_text.specs.Bits.{sameBits}
-use Rattle.oracle_list.specs.Cells.{half, one, counted, sameCells, isNear}
+use Rattle.oracle_list.specs.Cells.{half, one, minusQuarter, minusOne, counted, sameCells, isNear}
 use Rattle.oracle_list.specs.Words.{float, MatchWords}
-
--- -1/4 and -1
-abbrev pub minusQuarter : Float
-minusQuarter = fin true 1 (negsuc 1)
-
-abbrev pub minusOne : Float
-minusOne = fin true 1 (pos 0)
 
 -- both buffers are as they are before every call: coefficient cell i holds i + 1/2, scratch cell i holds -i - 1/4
 unfoldable pub isUntouched : List Float → List Float → Bool

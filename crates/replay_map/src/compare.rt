@@ -1,42 +1,12 @@
 // What the map program prints for an input, against what a case expects.
 ghost use mathlib.Core.Path.{_≡_};
-ghost use mathlib.Core.Bool.{true};
 ghost use Prim.Native.Nat.{_≤_};
 ghost use lib.ListN.{length, take};
 ghost use Rattle.map_work.specs.Program.{program};
 ghost use Rattle.map_work.specs.Steps.{Buffers};
 ghost use Rattle.replay_map.specs.Expected.{printed};
 use oracle_list::Compared;
-
-// Whether two texts are equal, in their bytes and in their lengths.
-fn same_bytes(a: &[u8], b: &[u8]) -> bool
-    ensures { λ r. ⌜ (r ≡ true → now (a .entry) ≡ now (b .entry)) ⌝ }
-{
-    if a.len() != b.len() {
-        return false;
-    }
-    let mut i = 0;
-    while i < a.len() {
-        if a[i] != b[i] {
-            return false;
-        }
-        i += 1;
-    }
-    true
-}
-
-// The first n bytes of `out`, and no others, are to be the expected ones.
-fn compare_bytes(out: &[u8], n: usize, expected: &[u8]) -> Compared
-    ensures { λ r. ⌜ (r ≡ Compared.Same → take n (now (out .entry)) ≡ now (expected .entry)) ⌝ }
-{
-    if n > out.len() {
-        return Compared::Differs;
-    }
-    if same_bytes(&out[..n], expected) {
-        return Compared::Same;
-    }
-    Compared::Differs
-}
+use oracle_match::compare_text;
 
 // The work on an input, in the program's buffers.
 fn compare_work(
@@ -56,7 +26,7 @@ fn compare_work(
     ensures { λ r. ⌜ (r ≡ Compared.Same → program more (now (input .entry)) ≡ now (expected .entry)) ⌝ }
 {
     let n = map_work::work_on(input, more, numbers, row, samples, coeffs, scratch, x, out);
-    compare_bytes(out, n, expected)
+    compare_text(out, n, expected)
 }
 
 // The same, in fresh buffers of the lengths that the program has.

@@ -2,12 +2,13 @@
 ghost use mathlib.Core.Path.{_≡_};
 ghost use Prim.Native.Nat.{_≤_};
 ghost use lib.ListN.{length, getD};
-ghost use Rattle.replay_queries.specs.Expected.{unwritten, MatchPart, MatchParts};
+ghost use Rattle.oracle_match.specs.Parts.{MatchPart, MatchParts};
+ghost use Rattle.replay_queries.specs.Expected.{unwritten};
 use crate::call;
 use crate::call::size;
-use crate::compare::compare_part;
-use crate::compare::compare_parts;
 use oracle_list::Compared;
+use oracle_match::compare_part;
+use oracle_match::compare_parts;
 
 // The values, on an output of the length that the record asks for. `before` is a buffer of that length.
 pub fn values(

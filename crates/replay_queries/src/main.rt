@@ -3,7 +3,6 @@
 // README describes it.
 mod batch;
 mod call;
-mod compare;
 mod ones;
 mod record;
 

@@ -2,7 +2,7 @@
 use native.Mathlib.Omega.{arith}
 use lib.ListN.{length-take}
 use borrow.Author.Needs.{needs}
-use Rattle.replay_map.proofs.Alike.{printed-long, printed-short}
+use Rattle.replay_map.proofs.Kept.{printed-long, printed-short}
 use Rattle.replay_map.proofs.compare.compare.Statement.{statement}
 use Rattle.replay_map.proofs.compare.compare.Tie as tie
 
