@@ -8,7 +8,7 @@ use lib.ListN.{length, set, take, length-set}
 use lib.Ieee.{Float, nan}
 use Rattle.shape.specs.Shape.{product, firstCell, lineOf, placeOf}
 use Rattle.shape.specs.Cells.{put, from, onLine, line}
-use Rattle.shape.specs.Fit.{solveLines, lineScratch, lineLeaves}
+use Rattle.shape.specs.Fit.{solveLine, solveLines, lineScratch, lineLeaves}
 use Rattle.shape.specs.Usable.{LinesWithin}
 use Rattle.shape.proofs.Accepted.{AxisIs}
 use Rattle.shape.proofs.Cells.{length-put, put-next, put-ext, from-in}
@@ -90,6 +90,15 @@ module _ (c : (ℕ → Float) → ℕ → Float) (n s lines : ℕ) (xs xs′ : L
 
   pub by-slabs : lines / s * s ≡ lines → xs′ ≡ solveLines nan c n s (lines / s * s) xs → xs′ ≡ solveLines nan c n s lines xs
   by-slabs whole e = e ∙ ap (λ (k : ℕ). solveLines nan c n s k xs) whole
+
+-- a line alone
+module _ (upper c : (ℕ → Float) → ℕ → Float) (n s lines m : ℕ) (xs ss : List Float) (one : lines ≡ 1) where
+  pub lone-coefs : (xs′ : List Float) → xs′ ≡ solveLine nan c n s 0 xs → xs′ ≡ solveLines nan c n s lines xs
+  unfolding solveLines
+  lone-coefs xs′ e = rw one e
+
+  pub lone-leaves : (ss′ : List Float) → ss′ ≡ lineLeaves nan upper c n s m 0 xs ss → ss′ ≡ lineLeaves nan upper c n s m (lines - 1) xs ss
+  lone-leaves ss′ e = rw one e
 
 -- ---- the lines below `first` are solved
 

@@ -103,8 +103,8 @@ fn solve_in_place(
     }
 }
 
-// All the lines of an axis with the given knots. What stays in scratch is what the last line, solved alone, would leave.
-fn solve_lines(
+// The same, all lines together. What stays in scratch is what the last line, solved alone, would leave.
+fn solve_many(
     grid: &[f64],
     low_ghost: Ghost,
     high_ghost: Ghost,
@@ -124,6 +124,30 @@ fn solve_lines(
     solve_in_place(grid, low_ghost, high_ghost, s, lines, scratch, coeffs);
     let base = shape::first_cell_of(n, s, lines - 1);
     keep_line(base, s, n, m, coeffs, scratch);
+}
+
+// All the lines of an axis with the given knots. A line alone has no other beside it: its upper numbers and right sides are
+// worked out together.
+fn solve_lines(
+    grid: &[f64],
+    low_ghost: Ghost,
+    high_ghost: Ghost,
+    s: usize,
+    lines: usize,
+    m: usize,
+    coeffs: &mut [f64],
+    scratch: &mut [f64],
+)
+    requires { ⌜ (0 < lines) × LinesWithin (length (now grid)) s lines m (length (now coeffs)) (length (now scratch)) ⌝ }
+    requires { ⌜ lines / s * s ≡ lines ⌝ }
+    ensures { λ _. ⌜ now (coeffs .exit) ≡ solveLines nan (coefficient binary64 (now (grid .entry)) (ghostNumbers «low_ghost») (ghostNumbers «high_ghost»)) (length (now (grid .entry))) s lines (now (coeffs .entry)) ⌝ }
+    ensures { λ _. ⌜ now (scratch .exit) ≡ lineLeaves nan (upperNumber binary64 (now (grid .entry)) (ghostNumbers «low_ghost») (ghostNumbers «high_ghost»)) (coefficient binary64 (now (grid .entry)) (ghostNumbers «low_ghost») (ghostNumbers «high_ghost»)) (length (now (grid .entry))) s m (lines - 1) (now (coeffs .entry)) (now (scratch .entry)) ⌝ }
+{
+    if lines == 1 {
+        solve_nth(grid, low_ghost, high_ghost, s, lines, m, 0, coeffs, scratch);
+    } else {
+        solve_many(grid, low_ghost, high_ghost, s, lines, m, coeffs, scratch);
+    }
 }
 
 // All the lines of one axis of a map on a joined grid. The ghost numbers are worked out once.

@@ -71,8 +71,8 @@ fn solve_in_place(n: usize, s: usize, lines: usize, upper: &[f64], coeffs: &mut 
     }
 }
 
-// All the lines of an axis of n points that are s apart. What stays in scratch is what the last line, solved alone, would leave.
-fn solve_lines(n: usize, s: usize, lines: usize, m: usize, coeffs: &mut [f64], scratch: &mut [f64])
+// The same, all lines together. What stays in scratch is what the last line, solved alone, would leave.
+fn solve_many(n: usize, s: usize, lines: usize, m: usize, coeffs: &mut [f64], scratch: &mut [f64])
     requires { ⌜ (0 < lines) × LinesWithin n s lines m (length (now coeffs)) (length (now scratch)) ⌝ }
     requires { ⌜ lines / s * s ≡ lines ⌝ }
     ensures { λ _. ⌜ now (coeffs .exit) ≡ solveLines nan (coefficient binary64 n) n s lines (now (coeffs .entry)) ⌝ }
@@ -82,6 +82,21 @@ fn solve_lines(n: usize, s: usize, lines: usize, m: usize, coeffs: &mut [f64], s
     solve_in_place(n, s, lines, scratch, coeffs);
     let base = shape::first_cell_of(n, s, lines - 1);
     keep_line(base, s, n, m, coeffs, scratch);
+}
+
+// All the lines of an axis of n points that are s apart. A line alone has no other beside it: its upper numbers and right sides
+// are worked out together.
+fn solve_lines(n: usize, s: usize, lines: usize, m: usize, coeffs: &mut [f64], scratch: &mut [f64])
+    requires { ⌜ (0 < lines) × LinesWithin n s lines m (length (now coeffs)) (length (now scratch)) ⌝ }
+    requires { ⌜ lines / s * s ≡ lines ⌝ }
+    ensures { λ _. ⌜ now (coeffs .exit) ≡ solveLines nan (coefficient binary64 n) n s lines (now (coeffs .entry)) ⌝ }
+    ensures { λ _. ⌜ now (scratch .exit) ≡ lineLeaves nan (upperNumber binary64 n) (coefficient binary64 n) n s m (lines - 1) (now (coeffs .entry)) (now (scratch .entry)) ⌝ }
+{
+    if lines == 1 {
+        solve_nth(n, s, lines, m, 0, coeffs, scratch);
+    } else {
+        solve_many(n, s, lines, m, coeffs, scratch);
+    }
 }
 
 // All the lines of one axis of a map.
