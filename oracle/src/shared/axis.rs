@@ -69,6 +69,21 @@ impl Axis<'_> {
         }
     }
 
+    // The first and the last grid point.
+    pub fn first(self) -> f64 {
+        match self {
+            Axis::Regular { start, .. } => start,
+            Axis::Rectilinear(knots) => knots[0],
+        }
+    }
+
+    pub fn last(self) -> f64 {
+        match self {
+            Axis::Regular { n, start, step } => start + step * (n as f64 - 1.0),
+            Axis::Rectilinear(knots) => knots[knots.len() - 1],
+        }
+    }
+
     // A coordinate between two grid points.
     pub fn inner(self, random: &mut Random) -> f64 {
         match self {
@@ -102,15 +117,20 @@ pub fn start_and_step(random: &mut Random, kind: &str) -> (f64, f64) {
     }
 }
 
+// A step that is zero, negative or NaN.
+pub fn bad_step(random: &mut Random) -> f64 {
+    random.pick(&[0.0, -0.0, -1.0, -5e-324, f64::NAN, -f64::NAN, f64::NEG_INFINITY, f64::MIN])
+}
+
 fn on_regular(random: &mut Random, n: u64, start: f64, step: f64) -> f64 {
     loop {
         let x = drawn(random, n, start, step);
         let floor = floor(start, step, x);
-        let refused = !(floor >= -TWO_63 && floor < TWO_63);
+        let refused = !(-TWO_63..TWO_63).contains(&floor);
         if floor != -TWO_63 && (!refused || random.below(12) == 0) {
             return x;
         }
-        if refused && !(start - start == 0.0) {
+        if refused && !start.is_finite() {
             return x;
         }
         if refused && random.below(8) == 0 {

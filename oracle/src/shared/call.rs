@@ -1,9 +1,25 @@
 // One call of `coefficients`, and what the Rust answers to it.
 use super::grids::{axes, can_ask};
+use super::papers::{Checks, Lent};
 use super::random::Random;
 use super::samples::samples;
 use super::words::{junk, number};
+use interpn::multibspline::regular::MultiBsplineRegular;
 use interpn::multibspline::{rectilinear, regular};
+
+// A method of one to four axes.
+macro_rules! by_count {
+    ($count:expr, $self:ident.$run:ident($($argument:expr),*)) => {
+        match $count {
+            1 => $self.$run::<1>($($argument),*),
+            2 => $self.$run::<2>($($argument),*),
+            3 => $self.$run::<3>($($argument),*),
+            4 => $self.$run::<4>($($argument),*),
+            count => panic!("the Rust is not run with {count} axes"),
+        }
+    };
+}
+pub(crate) use by_count;
 
 #[derive(Clone)]
 pub struct Call {
@@ -45,23 +61,45 @@ impl Call {
         can_ask(self.count, &self.dims, self.grid.as_deref())
     }
 
+    // What `coefficients` checks.
+    pub fn checks(&self) -> Checks<'_> {
+        Checks {
+            grid: self.grid.as_deref().map(Lent::Rectilinear),
+            coefs: Some(self.coefs),
+            samples: Some(self.samples.len()),
+            scratch: Some(self.scratch),
+            ..Checks::shape(self.count, self.dims)
+        }
+    }
+
     // The Rust's answer. A refusal must leave the buffers as they were.
     pub fn answer(&self) -> Answer {
         let mut coefs = coefs_before(self.coefs);
         let mut scratch = scratch_before(self.scratch);
-        let result = match self.count {
-            1 => self.run::<1>(&mut coefs, &mut scratch),
-            2 => self.run::<2>(&mut coefs, &mut scratch),
-            3 => self.run::<3>(&mut coefs, &mut scratch),
-            4 => self.run::<4>(&mut coefs, &mut scratch),
-            _ => panic!("the Rust is not run with {} axes", self.count),
-        };
+        let result = by_count!(self.count, self.run(&mut coefs, &mut scratch));
         let number = number(&result);
         if number != 0 {
             assert_eq!(coefs, coefs_before(self.coefs), "a refusal changed the coefficients");
             assert_eq!(scratch, scratch_before(self.scratch), "a refusal changed scratch");
         }
         Answer { number, coefs, scratch }
+    }
+
+    // The Rust's answer to `from_values_with_workspace`, of a regular map with these starts and then steps. Where it refuses
+    // a step it has written both buffers.
+    pub fn built(&self, grid: &[f64]) -> Answer {
+        let mut coefs = coefs_before(self.coefs);
+        let mut scratch = scratch_before(self.scratch);
+        let number = by_count!(self.count, self.build(grid, &mut coefs, &mut scratch));
+        Answer { number, coefs, scratch }
+    }
+
+    fn build<const N: usize>(&self, grid: &[f64], coefs: &mut [f64], scratch: &mut [f64]) -> u64 {
+        let dims: [usize; N] = std::array::from_fn(|axis| self.dims[axis] as usize);
+        let starts: [f64; N] = std::array::from_fn(|axis| grid[axis]);
+        let steps: [f64; N] = std::array::from_fn(|axis| grid[N + axis]);
+        let samples = &self.samples;
+        number(&MultiBsplineRegular::from_values_with_workspace(dims, starts, steps, samples, coefs, scratch, false))
     }
 
     fn run<const N: usize>(&self, coefs: &mut [f64], scratch: &mut [f64]) -> Result<(), &'static str> {

@@ -70,7 +70,7 @@ fn sample(random: &mut Random, kind: &str, i: usize) -> f64 {
         "huge" => random.float(1019, 1023),
         "zeros" => random.pick(&[0.0, -0.0]),
         "steps" => {
-            if i / 3 % 2 == 0 {
+            if (i / 3).is_multiple_of(2) {
                 1.0
             } else {
                 -1.0

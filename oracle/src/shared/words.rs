@@ -21,6 +21,15 @@ pub fn written(x: f64) -> u64 {
     if x.is_nan() { NAN } else { x.to_bits() }
 }
 
+// Whether two floats have the same bits, any NaN for any NaN.
+pub fn same_float(a: f64, b: f64) -> bool {
+    written(a) == written(b)
+}
+
+pub fn same(a: &[f64], b: &[f64]) -> bool {
+    a.len() == b.len() && a.iter().zip(b).all(|(&x, &y)| same_float(x, y))
+}
+
 // The words for floats that it is given: they keep their bits.
 pub fn given(xs: &[f64]) -> impl Iterator<Item = u64> {
     xs.iter().map(|x| x.to_bits())

@@ -1,6 +1,6 @@
 // The list: its words and its counts.
-use crate::map::{Answer, Batch, Map};
 use crate::shared::axis::PLACES;
+use crate::shared::map::{Answer, Batch, Map};
 use crate::shared::words::{given, put_record, written};
 use std::collections::BTreeMap;
 

@@ -1,7 +1,6 @@
 // Writes the fixed list of queries on maps and their answers to standard output, and its counts to standard error. Nothing
 // here depends on the time, the environment or the machine. ../../../README.md describes the list.
 mod list;
-mod map;
 mod maps;
 mod rectilinear_maps;
 mod rectilinear_refusals;

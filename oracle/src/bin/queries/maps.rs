@@ -1,7 +1,7 @@
 // The regular maps whose queries are answered: every axis count, grid, kind of coefficients and place.
 use crate::list::List;
-use crate::map::Map;
 use crate::shared::axis::{REGULAR, TWO_63, start_and_step};
+use crate::shared::map::{Map, ask};
 use crate::shared::random::Random;
 use crate::shared::samples::{KINDS, samples};
 use crate::shared::words::junk;
@@ -70,19 +70,6 @@ pub fn bare(random: &mut Random, grid: &str, kind: &str, count: usize, linear: b
     let size: u64 = dims[..count].iter().product();
     let coefs = samples(random, kind, size as usize);
     Map { count: count as u64, dims, starts, steps, grid: None, linear, coefs, xs: Vec::new(), values: 0, parts: 0 }
-}
-
-// The map is asked n queries.
-pub fn ask(random: &mut Random, map: &mut Map, n: usize) {
-    let count = map.count as usize;
-    map.xs = vec![0.0; count * n];
-    for axis in 0..count {
-        for i in 0..n {
-            map.xs[axis * n + i] = map.axis(axis).coordinate(random);
-        }
-    }
-    map.values = n;
-    map.parts = count * n;
 }
 
 // Quotients about the ends of the signed 64-bit range, NaN and infinite queries.

@@ -1,9 +1,9 @@
 // The rectilinear maps, whose queries are all answered: every axis count, grid, kind of coefficients and place.
 use crate::list::List;
-use crate::map::Map;
-use crate::maps::{ask, asked, coefficients, empty, mixed_lengths};
+use crate::maps::{asked, coefficients, empty, mixed_lengths};
 use crate::shared::axis::between;
 use crate::shared::grids::{GRIDS, joined};
+use crate::shared::map::{Map, ask};
 use crate::shared::random::Random;
 use crate::shared::samples::{KINDS, samples};
 use crate::shared::words::junk;

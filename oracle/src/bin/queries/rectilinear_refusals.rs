@@ -1,11 +1,10 @@
 // The records on rectilinear grids that are refused as a whole: each refusal by itself, and several at once, where the first
 // in the fixed order is the answer.
 use crate::list::List;
-use crate::map::Map;
-use crate::maps::ask;
 use crate::rectilinear_maps::bare;
 use crate::refusals::{EACH, LARGE, lengths, spoil_lengths};
 use crate::shared::grids::{FAULTS, joined, knots, places, resize, spoil, spoil_any};
+use crate::shared::map::{Map, ask};
 use crate::shared::random::Random;
 
 const SEED: u64 = 0x26_574e_b569;

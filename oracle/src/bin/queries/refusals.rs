@@ -1,8 +1,9 @@
 // The records on regular grids that are refused as a whole: each refusal by itself, and several at once, where the first in
 // the fixed order is the answer.
 use crate::list::List;
-use crate::map::Map;
-use crate::maps::{ask, bare};
+use crate::maps::bare;
+use crate::shared::axis::bad_step;
+use crate::shared::map::{Map, ask};
 use crate::shared::random::Random;
 
 const SEED: u64 = 0x26_574e_b565;
@@ -65,10 +66,6 @@ pub fn spoil_lengths(random: &mut Random, map: &mut Map) {
     if random.below(3) == 0 {
         map.xs[0] = f64::NAN;
     }
-}
-
-fn bad_step(random: &mut Random) -> f64 {
-    random.pick(&[0.0, -0.0, -1.0, -5e-324, f64::NAN, -f64::NAN, f64::NEG_INFINITY, f64::MIN])
 }
 
 // 1: no axes, or more than four. The Rust has no counterpart.

@@ -1,5 +1,5 @@
 // The list: its words and its counts.
-use crate::fit::{Fit, Ran};
+use crate::shared::fit::{Fit, Ran};
 use crate::shared::words::{given, put_record, written};
 use std::collections::BTreeMap;
 

@@ -1,9 +1,5 @@
 // Writes the fixed list of stepwise fits, their task lists and what comes of them to standard output, and its counts to
 // standard error. Nothing here depends on the time, the environment or the machine. ../../../README.md describes the list.
-mod book;
-mod fit;
-mod ledger;
-mod lines;
 mod list;
 mod lists;
 mod orders;

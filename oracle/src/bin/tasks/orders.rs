@@ -1,9 +1,9 @@
 // Complete orders on a map of 4 by 4 points: for each of the 576 orders in which its eight lines can be solved, two lists of
 // calls after which all are, no two lists alike.
-use crate::book::{Book, Task};
-use crate::fit::Fit;
 use crate::list::List;
+use crate::shared::book::{Book, Task};
 use crate::shared::call::call;
+use crate::shared::fit::Fit;
 use crate::shared::grids::joined;
 use crate::shared::random::Random;
 use std::collections::BTreeSet;

@@ -1,26 +1,14 @@
 // Begins that are refused: each refusal by itself, and with more that is wrong later in the order of the checks.
-use crate::fit::Fit;
 use crate::list::List;
 use crate::shared::call::{call, padded};
-use crate::shared::grids::{FAULTS, joined, knots, places, resize, spoil, spoil_any};
+use crate::shared::fit::Fit;
+use crate::shared::grids::{FAULTS, joined, knots, places, spoil};
 use crate::shared::random::Random;
 use crate::shared::shapes::{LARGE, MOST};
+use crate::shared::spoils::{CHECKS, Check, spoil_check};
 
 const SEEDS: [u64; 2] = [0x26_574e_b56c, 0x26_574e_b56d];
 const EACH: usize = 12;
-
-// The checks that come after the lengths of the axes, in their order.
-#[derive(Clone, Copy, PartialEq, PartialOrd)]
-enum Check {
-    Grid,
-    Coefs,
-    Ledger,
-    Knots,
-    Samples,
-    Scratch,
-}
-
-const CHECKS: [Check; 6] = [Check::Grid, Check::Coefs, Check::Ledger, Check::Knots, Check::Samples, Check::Scratch];
 
 pub fn add(list: &mut List, rectilinear: bool) {
     let mut random = Random::new(SEEDS[usize::from(rectilinear)]);
@@ -51,28 +39,6 @@ fn spoilt(random: &mut Random, turn: usize, mut fit: Fit, from: Check) -> Fit {
         }
     }
     fit
-}
-
-// Another length of a buffer that has to have n cells.
-fn another(random: &mut Random, n: usize) -> usize {
-    let length = random.pick(&[n.saturating_sub(1), n + 1, 0, 1, 2 * n]);
-    if length == n { n + 1 } else { length }
-}
-
-fn spoil_check(random: &mut Random, fit: &mut Fit, check: Check) {
-    let call = &mut fit.call;
-    match (check, &mut call.grid) {
-        (Check::Grid, Some(grid)) => resize(random, &call.dims, grid),
-        (Check::Knots, Some(grid)) => spoil_any(random, call.count, &call.dims, grid),
-        (Check::Grid | Check::Knots, None) => (),
-        (Check::Coefs, _) => call.coefs = another(random, call.coefs),
-        (Check::Ledger, _) => fit.ledger = another(random, fit.ledger),
-        (Check::Samples, _) => {
-            let length = another(random, call.samples.len());
-            call.samples.resize(length, -2.25);
-        }
-        (Check::Scratch, _) => call.scratch = random.pick(&[0, 1, call.scratch / 2, 7]),
-    }
 }
 
 // 1: no axes, or more than four.

@@ -1,8 +1,10 @@
 // One map with a batch of queries, and what the Rust answers to it.
-use crate::shared::asked::Asked;
-use crate::shared::axis::Axis;
-use crate::shared::grids::{axes, can_ask, places};
-use crate::shared::words::number;
+use super::asked::Asked;
+use super::axis::Axis;
+use super::call::by_count;
+use super::grids::{axes, can_ask, places};
+use super::random::Random;
+use super::words::{number, same};
 use interpn::multibspline::rectilinear::MultiBsplineRectilinear;
 use interpn::multibspline::regular::MultiBsplineRegular;
 
@@ -91,13 +93,7 @@ impl Map {
 
     // The Rust's answer, where it can be asked.
     pub fn answer(&self) -> Answer {
-        match self.count {
-            1 => self.run::<1>(),
-            2 => self.run::<2>(),
-            3 => self.run::<3>(),
-            4 => self.run::<4>(),
-            _ => panic!("the Rust is not run with {} axes", self.count),
-        }
+        by_count!(self.count, self.run())
     }
 
     fn run<const N: usize>(&self) -> Answer {
@@ -121,7 +117,7 @@ impl Map {
             let refused = Batch { number, written: 0 };
             return Answer { values: refused, parts: refused, ones: Vec::new() };
         };
-        let fits = self.values * N == self.xs.len() || self.parts == self.xs.len() && self.parts % N == 0;
+        let fits = self.values * N == self.xs.len() || self.parts == self.xs.len() && self.parts.is_multiple_of(N);
         let ones: Vec<One> = if fits { (0..self.queries()).map(|i| self.one(&map, i)).collect() } else { Vec::new() };
         if (0..ones.len()).any(|i| self.overflows(i)) {
             return self.joined(ones);
@@ -213,14 +209,23 @@ impl Map {
     }
 }
 
+// The map is asked n queries.
+pub fn ask(random: &mut Random, map: &mut Map, n: usize) {
+    let count = map.count as usize;
+    map.xs = vec![0.0; count * n];
+    for axis in 0..count {
+        for i in 0..n {
+            map.xs[axis * n + i] = map.axis(axis).coordinate(random);
+        }
+    }
+    map.values = n;
+    map.parts = count * n;
+}
+
 // A batch whose lengths are right: it writes what stands before the first query that is refused.
 fn expected(ones: &[One]) -> Batch {
     match ones.iter().position(|one| one.number != 0) {
         Some(i) => Batch { number: 6, written: i },
         None => Batch { number: 0, written: ones.len() },
     }
-}
-
-fn same(a: &[f64], b: &[f64]) -> bool {
-    a.len() == b.len() && a.iter().zip(b).all(|(x, y)| x.to_bits() == y.to_bits() || x.is_nan() && y.is_nan())
 }

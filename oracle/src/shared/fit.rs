@@ -1,11 +1,12 @@
 // A stepwise fit: begin, and a task list after it. The Rust has no such calls, but its `coefficients` on a map of one axis is
 // the solve of one line, and on the whole map it is where a list must end that solves every line.
-use crate::book::{Book, Task};
-use crate::ledger;
-use crate::lines::cells;
-use crate::shared::call::Call;
-use crate::shared::grids::{places, rises};
-use crate::shared::words::written;
+use super::book::{Book, Task};
+use super::call::Call;
+use super::grids::places;
+use super::ledger;
+use super::lines::cells;
+use super::papers::{Checks, points};
+use super::words::same;
 
 #[derive(Clone)]
 pub struct Fit {
@@ -48,37 +49,11 @@ impl Fit {
     }
 
     fn is_ledger_wrong(&self) -> bool {
-        self.points().is_some_and(|n| self.ledger as u64 != n)
-    }
-
-    // The number of points, where it is not too large.
-    fn points(&self) -> Option<u64> {
-        let points = self.call.lengths().iter().try_fold(1u64, |n, &d| n.checked_mul(d));
-        points.filter(|&n| n <= 16_777_216)
+        points(self.call.lengths()).is_some_and(|n| self.ledger as u64 != n)
     }
 
     fn first_refusal(&self) -> u64 {
-        let call = &self.call;
-        if !(1..=4).contains(&call.count) {
-            return 1;
-        }
-        if call.lengths().iter().any(|&n| n < 4) {
-            return 2;
-        }
-        let Some(points) = self.points() else { return 3 };
-        if call.grid.as_ref().is_some_and(|grid| grid.len() as u64 != call.lengths().iter().sum()) {
-            return 2;
-        }
-        if call.coefs as u64 != points || self.ledger as u64 != points {
-            return 2;
-        }
-        if !(0..call.count as usize).all(|axis| self.knots(axis).is_none_or(rises)) {
-            return 5;
-        }
-        if call.samples.len() as u64 != points {
-            return 2;
-        }
-        if (call.scratch as u64) < 2 * call.lengths().iter().max().unwrap() { 4 } else { 0 }
+        Checks { ledger: Some(self.ledger), ..self.call.checks() }.first()
     }
 
     fn knots(&self, axis: usize) -> Option<&[f64]> {
@@ -104,14 +79,13 @@ impl Fit {
         let is_finished = book.is_finished();
         assert_eq!(ledger.iter().all(|&byte| u64::from(byte) == self.call.count), is_finished);
         if is_finished {
-            let whole = self.call.answer().coefs;
-            assert!(whole.iter().zip(&coefs).all(|(&a, &b)| written(a) == written(b)), "other bits than the whole fit");
+            assert!(same(&self.call.answer().coefs, &coefs), "other bits than the whole fit");
         }
         Ran { answers, coefs, ledger, is_finished }
     }
 
-    // Solves one line: its cells are gathered, fitted as a map of one axis, and put back.
-    fn solve(&self, task: Task, coefs: &mut [f64]) {
+    // Solves one line: its cells are gathered, fitted as a map of one axis, and put back. Scratch of that fit is handed back.
+    pub fn solve(&self, task: Task, coefs: &mut [f64]) -> Vec<f64> {
         let axis = task.axis as usize;
         let line = cells(self.call.lengths(), axis, task.line);
         let one = Call {
@@ -125,5 +99,6 @@ impl Fit {
         let answer = one.answer();
         assert_eq!(answer.number, 0, "the Rust refuses a line");
         line.iter().zip(answer.coefs).for_each(|(&cell, x)| coefs[cell] = x);
+        answer.scratch
     }
 }

@@ -1,6 +1,6 @@
 // The book of a task list: which lines are solved. It is fed the shape and each call's axis, line and scratch length, and
 // knows nothing of samples, coefficients or ledger.
-use crate::lines::{cells, line_through, lines};
+use super::lines::{cells, exists, line_through, lines};
 use std::collections::BTreeSet;
 
 // One line call.
@@ -34,7 +34,7 @@ impl Book {
     }
 
     pub fn exists(&self, axis: u64, line: u64) -> bool {
-        axis < self.dims.len() as u64 && line < lines(&self.dims, axis as usize)
+        exists(&self.dims, axis, line)
     }
 
     pub fn is_finished(&self) -> bool {

@@ -10,6 +10,11 @@ pub fn lines(dims: &[u64], axis: usize) -> u64 {
     dims.iter().product::<u64>() / dims[axis]
 }
 
+// Whether there is such a line.
+pub fn exists(dims: &[u64], axis: u64, line: u64) -> bool {
+    axis < dims.len() as u64 && line < lines(dims, axis as usize)
+}
+
 // The cells of a line, from its first on.
 pub fn cells(dims: &[u64], axis: usize, line: u64) -> Vec<usize> {
     let (n, stride) = (dims[axis], stride(dims, axis));
