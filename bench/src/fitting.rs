@@ -1,0 +1,74 @@
+// Fits and line calls.
+use crate::Pair;
+use crate::map::Map;
+use crate::shared::words::same;
+use interpn::multibspline::{rectilinear, regular};
+use std::hint::black_box;
+
+// The Rust's fit, as its user calls it: with buffers of his own.
+fn rust_fit<const N: usize>(map: &Map<N>, coefs: &mut [f64], scratch: &mut [f64]) -> Result<(), &'static str> {
+    if map.rectilinear {
+        rectilinear::coefficients(map.knots(), black_box(map.samples), coefs, scratch)
+    } else {
+        regular::coefficients(map.dims, black_box(map.samples), coefs, scratch)
+    }
+}
+
+// The coefficients of a map, from the Rust.
+pub fn coefficients<const N: usize>(map: &Map<N>) -> &'static [f64] {
+    let mut coefs = vec![0.0; map.samples.len()];
+    rust_fit(map, &mut coefs, &mut map.scratch()).expect("a fit is refused");
+    coefs.leak()
+}
+
+pub fn fit<const N: usize>(map: Map<N>) -> Pair {
+    let lent = map.lent();
+    let (samples, n) = (map.samples, map.samples.len());
+    let (mut coefs, mut scratch) = (vec![0.0; n], map.scratch());
+    assert_eq!(lent.fit(samples, &mut coefs, &mut scratch), 0);
+    assert!(same(&coefs, coefficients(&map)), "the fits differ");
+    let library = move || {
+        let answer = lent.fit(black_box(samples), black_box(&mut coefs), &mut scratch);
+        assert_eq!(answer, 0);
+    };
+    let (knots, dims) = (if map.rectilinear { Some(map.knots()) } else { None }, map.dims);
+    let (mut coefs, mut scratch) = (vec![0.0; n], map.scratch());
+    let rust = move || {
+        let coefs = black_box(&mut coefs);
+        let answer = match knots {
+            Some(knots) => rectilinear::coefficients(knots, black_box(samples), coefs, &mut scratch),
+            None => regular::coefficients(dims, black_box(samples), coefs, &mut scratch),
+        };
+        assert_eq!(answer, Ok(()));
+    };
+    Pair::warm(library, rust)
+}
+
+// Line 0 of axis 0: its samples are put into place, its ledger bytes zeroed, and it is solved. The Rust has no such call;
+// what it does is a fit of one axis as long as that.
+pub fn line<const N: usize>(map: Map<N>) -> Pair {
+    let (n, lent, all) = (map.dims[0], map.lent(), map.samples);
+    let stride = map.samples.len() / n;
+    let mut coefs = all.to_vec();
+    let (mut ledger, mut scratch) = (vec![0; all.len()], map.scratch());
+    let library = move || {
+        for i in 0..n {
+            coefs[i * stride] = all[i * stride];
+            ledger[i * stride] = 0;
+        }
+        let answer = lent.line(0, 0, black_box(&mut coefs), black_box(&mut ledger), &mut scratch);
+        assert_eq!(answer, 0);
+    };
+    let samples: Vec<f64> = (0..n).map(|i| all[i * stride]).collect();
+    let (mut coefs, mut scratch) = (vec![0.0; n], vec![0.0; 2 * n]);
+    let knots = if map.rectilinear { Some([map.knots()[0]]) } else { None };
+    let rust = move || {
+        let coefs = black_box(&mut coefs);
+        let answer = match &knots {
+            Some(knots) => rectilinear::coefficients(knots, black_box(&samples), coefs, &mut scratch),
+            None => regular::coefficients([n], black_box(&samples), coefs, &mut scratch),
+        };
+        assert_eq!(answer, Ok(()));
+    };
+    Pair::warm(library, rust)
+}

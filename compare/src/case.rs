@@ -1,0 +1,34 @@
+// A case: its inputs follow from the seed and its number alone.
+use crate::big;
+use crate::counts::Counts;
+use crate::difference::Outcome;
+use crate::fits::FitCase;
+use crate::line::LineCase;
+use crate::queries::QueryCase;
+use crate::shape::ShapeCase;
+use crate::shared::random::Random;
+use crate::steps::StepCase;
+
+// One case in so many is as large as a map may be, or just too large.
+const BIG_EVERY: u64 = 20_000;
+const FIRST_BIG: u64 = 1_000;
+
+pub trait Case {
+    // Prints every input.
+    fn show(&self);
+    fn compare(&self, counts: &mut Counts) -> Outcome;
+}
+
+pub fn draw(seed: u64, number: u64) -> Box<dyn Case> {
+    let mut random = Random::new(Random::new(seed).bits() ^ Random::new(!number).bits());
+    if number % BIG_EVERY == FIRST_BIG {
+        return big::draw(&mut random, number / BIG_EVERY);
+    }
+    match random.below(16) {
+        0..5 => Box::new(FitCase::draw(&mut random)),
+        5..10 => Box::new(QueryCase::draw(&mut random)),
+        10..12 => Box::new(StepCase::draw(&mut random)),
+        12..15 => Box::new(LineCase::draw(&mut random)),
+        _ => Box::new(ShapeCase::draw(&mut random)),
+    }
+}
