@@ -75,6 +75,10 @@ impl BigFit {
 }
 
 impl Case for BigFit {
+    fn lent(&self) -> Vec<&[f64]> {
+        self.subject.lent()
+    }
+
     fn show(&self) {
         self.subject.show();
     }
@@ -125,6 +129,10 @@ impl BigList {
 }
 
 impl Case for BigList {
+    fn lent(&self) -> Vec<&[f64]> {
+        self.subject.lent()
+    }
+
     fn show(&self) {
         self.subject.show();
         crate::show::numbers("axes of the calls", &self.axes);
@@ -181,6 +189,10 @@ fn over(random: &mut Random, dims: &[u64], rectilinear: bool) -> Subject {
 }
 
 impl Case for Over {
+    fn lent(&self) -> Vec<&[f64]> {
+        self.subject.lent()
+    }
+
     fn show(&self) {
         self.subject.show();
     }

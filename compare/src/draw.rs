@@ -99,7 +99,8 @@ pub fn any_good(random: &mut Random, most: u64) -> Subject {
 // A map that is wrong in one or more ways.
 pub fn spoilt(random: &mut Random) -> Subject {
     let mut subject = any_good(random, 300);
-    for check in random.some(&CHECKS) {
+    let checks = if random.below(2) == 0 { vec![random.pick(&CHECKS)] } else { random.some(&CHECKS) };
+    for check in checks {
         spoil_check(random, &mut subject.fit, check);
         if check == Check::Grid || check == Check::Knots {
             spoil_regular(random, &mut subject.regular);
@@ -116,7 +117,7 @@ pub fn spoilt(random: &mut Random) -> Subject {
 
 // A step that is not above zero, or another length.
 pub fn spoil_regular(random: &mut Random, regular: &mut Vec<f64>) {
-    if regular.is_empty() {
+    if regular.len() < 2 {
         return;
     }
     if random.below(2) == 0 {

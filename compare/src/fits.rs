@@ -24,6 +24,10 @@ impl FitCase {
 }
 
 impl Case for FitCase {
+    fn lent(&self) -> Vec<&[f64]> {
+        self.subject.lent()
+    }
+
     fn show(&self) {
         self.subject.show();
     }

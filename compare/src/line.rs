@@ -64,8 +64,9 @@ fn prepare(random: &mut Random, ledger: &mut [u8], axis: u64, line: &[usize]) {
     }
     line.iter().for_each(|&cell| ledger[cell] = axis as u8);
     if wanted < 4 {
+        let bytes = random.pick(&[[0, 1, 2, 3], [0, 0, 1, 2], [4, 5, 128, 255]]);
         for _ in 0..wanted {
-            ledger[random.pick(line)] = random.pick(&[0, 1, 2, 3, 4, 5, 128, 255]);
+            ledger[random.pick(line)] = random.pick(&bytes);
         }
     }
 }
@@ -82,6 +83,10 @@ pub fn leave(scratch: &mut [f64], dims: &[u64], rust: &[f64]) {
 }
 
 impl Case for LineCase {
+    fn lent(&self) -> Vec<&[f64]> {
+        self.subject.lent()
+    }
+
     fn show(&self) {
         self.subject.show();
         show::numbers("axis, line, scratch", [self.task.axis, self.task.line, self.task.scratch]);

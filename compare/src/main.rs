@@ -20,7 +20,7 @@ mod steps;
 mod subject;
 
 use arguments::Arguments;
-use case::draw;
+use case::{draw, run};
 use counts::Counts;
 use std::process::ExitCode;
 use std::time::{Duration, Instant};
@@ -38,7 +38,7 @@ fn one(arguments: &Arguments, number: u64) -> ExitCode {
     tell_where(arguments.seed, number);
     let case = draw(arguments.seed, number);
     case.show();
-    finish(case.compare(&mut Counts::default()), arguments.seed, number)
+    finish(run(&*case, &mut Counts::default()), arguments.seed, number)
 }
 
 // Cases until the time is over.
@@ -49,7 +49,7 @@ fn many(arguments: &Arguments) -> ExitCode {
     let mut told = 0;
     while started.elapsed() < Duration::from_secs(arguments.seconds) {
         tell_where(arguments.seed, number);
-        if let Err(difference) = draw(arguments.seed, number).compare(&mut counts) {
+        if let Err(difference) = run(&*draw(arguments.seed, number), &mut counts) {
             return finish(Err(difference), arguments.seed, number);
         }
         number += 1;

@@ -34,7 +34,7 @@ impl QueryCase {
         if self.map.grid.is_none() { "regular" } else { "rectilinear" }
     }
 
-    fn lent(&self) -> Lent<'_> {
+    fn grid(&self) -> Lent<'_> {
         match &self.map.grid {
             None => Lent::Regular(&self.regular),
             Some(knots) => Lent::Rectilinear(knots),
@@ -52,12 +52,12 @@ impl QueryCase {
 
     // The papers' number of the map with so many coefficients.
     fn number(&self, coefs: usize) -> u64 {
-        Checks { grid: Some(self.lent()), coefs: Some(coefs), ..Checks::shape(self.map.count, self.map.dims) }.first()
+        Checks { grid: Some(self.grid()), coefs: Some(coefs), ..Checks::shape(self.map.count, self.map.dims) }.first()
     }
 
     // The Rust's answers. Where the map is refused it must say the same, if it can be asked, and there are none.
     fn answer(&self, number: u64) -> Option<Answer> {
-        let can_say = match self.lent() {
+        let can_say = match self.grid() {
             Lent::Regular(grid) => Some(grid.len()) == (self.map.count as usize).checked_mul(2),
             Lent::Rectilinear(_) => true,
         };
@@ -76,6 +76,10 @@ impl QueryCase {
 }
 
 impl Case for QueryCase {
+    fn lent(&self) -> Vec<&[f64]> {
+        vec![&self.map.coefs, &self.map.xs, &self.regular, self.map.grid.as_deref().unwrap_or(&[])]
+    }
+
     fn show(&self) {
         let map = &self.map;
         show::text("grid", &format!("{}, {}", self.name(), self.grid));

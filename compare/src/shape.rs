@@ -42,6 +42,10 @@ fn place(random: &mut Random, dims: &[u64]) -> (u64, u64) {
 }
 
 impl Case for ShapeCase {
+    fn lent(&self) -> Vec<&[f64]> {
+        Vec::new()
+    }
+
     fn show(&self) {
         show::numbers("axis count", [self.count]);
         show::numbers("lengths", self.dims);

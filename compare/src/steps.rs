@@ -77,6 +77,10 @@ struct Got {
 }
 
 impl Case for StepCase {
+    fn lent(&self) -> Vec<&[f64]> {
+        self.subject.lent()
+    }
+
     fn show(&self) {
         self.subject.show();
         show::text("style", self.style);

@@ -94,6 +94,10 @@ impl Subject {
         Wanted::of(answer, is_written)
     }
 
+    pub fn lent(&self) -> Vec<&[f64]> {
+        vec![&self.fit.call.samples, &self.regular, self.fit.call.grid.as_deref().unwrap_or(&[])]
+    }
+
     pub fn show(&self) {
         let call = &self.fit.call;
         show::text("grid", &format!("{}, {}", self.fit.name(), self.grid));
