@@ -1,4 +1,5 @@
 // Workloads: the same work for the library and for the Rust, on the same inputs.
+pub mod clock;
 pub mod evaluation;
 pub mod fitting;
 pub mod map;

@@ -1,14 +1,14 @@
 // Times the library and the Rust on the same inputs and prints their medians and ratios. The argument is the number of
 // rounds, 9 without it. ../docs/PERFORMANCE.md has figures.
+use bench::clock::now;
 use bench::table::{Figures, MAPS, measure};
 use bench::{Pair, Work};
-use std::time::Instant;
 
 const QUERIES: usize = 100_000;
 const SINGLE: usize = 1_000;
 
-// A side is repeated until a round of it takes so long, in seconds.
-const ROUND: f64 = 0.02;
+// A side is repeated until a round of it takes so many microseconds.
+const ROUND: f64 = 20_000.0;
 
 fn main() {
     let rounds = std::env::args().nth(1).map_or(9, |text| text.parse().expect("the argument is the number of rounds"));
@@ -16,7 +16,7 @@ fn main() {
         "medians of {rounds} rounds, library and Rust in turn; microseconds a call, or for {SINGLE} single values"
     );
     println!();
-    measure(&MAPS, "us", |work, dims, rectilinear| {
+    measure(&MAPS, "us", 1, |work, dims, rectilinear| {
         let queries = if work == Work::Value { SINGLE } else { QUERIES };
         medians(work.pair(dims, rectilinear, queries), rounds)
     });
@@ -41,14 +41,14 @@ fn medians(mut pair: Pair, rounds: usize) -> Figures {
 
 // How often the work fits into a round.
 fn repeats(work: &mut dyn FnMut()) -> usize {
-    ((ROUND * 1e6 / time(work, 1)) as usize).clamp(1, 1_000_000)
+    ((ROUND / time(work, 1)) as usize).clamp(1, 1_000_000)
 }
 
 // Microseconds of one time, over so many.
 fn time(work: &mut dyn FnMut(), times: usize) -> f64 {
-    let started = Instant::now();
+    let started = now();
     (0..times).for_each(|_| work());
-    started.elapsed().as_secs_f64() * 1e6 / times as f64
+    (now() - started) / times as f64
 }
 
 fn median(mut times: Vec<f64>) -> f64 {

@@ -25,7 +25,7 @@ pub fn name(dims: &[u64]) -> String {
 }
 
 // Measures every row, prints it when it is done, and then the ratios in one short table.
-pub fn measure(maps: &[&[u64]; 4], unit: &str, mut row: impl FnMut(Work, &[u64], bool) -> Figures) {
+pub fn measure(maps: &[&[u64]; 4], unit: &str, digits: usize, mut row: impl FnMut(Work, &[u64], bool) -> Figures) {
     println!("| | map | grid | library, {unit} | Rust, {unit} | ratio |");
     println!("|---|---|---|---|---|---|");
     let mut ratios = Vec::new();
@@ -34,7 +34,8 @@ pub fn measure(maps: &[&[u64]; 4], unit: &str, mut row: impl FnMut(Work, &[u64],
             for dims in maps {
                 let figures = row(work, dims, rectilinear);
                 let (library, rust, ratio) = (figures.library, figures.rust, figures.ratio());
-                println!("| {} | {} | {grid} | {library:.1} | {rust:.1} | {ratio:.2} |", work.name(), name(dims));
+                let (work, map) = (work.name(), name(dims));
+                println!("| {work} | {map} | {grid} | {library:.digits$} | {rust:.digits$} | {ratio:.2} |");
                 ratios.push(format!("{ratio:.2}"));
             }
         }

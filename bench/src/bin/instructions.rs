@@ -13,7 +13,7 @@ fn main() {
     }
     println!("instructions of one call, batches and single values of {QUERIES} queries");
     println!();
-    measure(&SMALL, "instructions", |work, dims, rectilinear| Figures {
+    measure(&SMALL, "instructions", 0, |work, dims, rectilinear| Figures {
         library: count("library", work, dims, rectilinear),
         rust: count("rust", work, dims, rectilinear),
     });
