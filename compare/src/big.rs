@@ -29,8 +29,9 @@ const OVER: [&[u64]; 7] = [
     &[4, 4, 4, 262_145],
 ];
 
-// How many queries are asked of a fitted map.
+// How many queries are asked of a fitted map in batches, and how many by themselves.
 const QUERIES: usize = 2_000;
+const SINGLES: usize = 8;
 
 // In turn: every shape of MOST on both grids, fitted and evaluated; between them lists of line calls, and maps too large.
 pub fn draw(random: &mut Random, turn: u64) -> Box<dyn Case> {
@@ -92,6 +93,7 @@ impl Case for BigFit {
         let mut random = Random::new(self.seed);
         let (dims, rectilinear) = (self.subject.fit.call.lengths(), self.subject.fit.is_rectilinear());
         let mut queries = query_draw::on(&mut random, dims, rectilinear, coefs);
+        queries.singles = SINGLES;
         queries.samples = "of a fit of the largest size";
         ask(&mut random, &mut queries.map, QUERIES);
         queries.compare(counts)

@@ -16,6 +16,8 @@ pub struct QueryCase {
     pub regular: Vec<f64>,
     // the flag: not 0 where the Rust's is set
     pub flag: u32,
+    // how many queries are also asked by themselves: such a call looks at every knot
+    pub singles: usize,
     pub samples: &'static str,
     pub grid: &'static str,
 }
@@ -103,7 +105,7 @@ impl Case for QueryCase {
         counts.class("coefficients", self.samples);
         counts.class(if self.map.grid.is_some() { "knots" } else { "starts and steps" }, self.grid);
         counts.size(self.name(), &self.map.dims[..self.map.count as usize]);
-        for (i, one) in answer.ones.iter().enumerate() {
+        for (i, one) in answer.ones.iter().enumerate().take(self.singles) {
             self.one(i, one, counts)?;
         }
         self.wrong_ones(counts)

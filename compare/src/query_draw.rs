@@ -53,7 +53,7 @@ pub fn on(random: &mut Random, lengths: &[u64], rectilinear: bool, coefs: Vec<f6
         parts: 0,
     };
     let regular = if rectilinear { Vec::new() } else { numbers };
-    QueryCase { map, regular, flag, samples: "", grid }
+    QueryCase { map, regular, flag, singles: usize::MAX, samples: "", grid }
 }
 
 // Coordinates that are not finite, about the ends of the signed 64-bit range, or past them.
