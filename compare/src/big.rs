@@ -33,16 +33,18 @@ const OVER: [&[u64]; 7] = [
 const QUERIES: usize = 2_000;
 const SINGLES: usize = 8;
 
+// The order of MOST: each axis count comes early, with exactly the most points.
+const ORDER: [usize; 14] = [0, 2, 6, 9, 3, 7, 10, 1, 4, 5, 8, 11, 12, 13];
+
 // In turn: every shape of MOST on both grids, fitted and evaluated; between them lists of line calls, and maps too large.
 pub fn draw(random: &mut Random, turn: u64) -> Box<dyn Case> {
-    let (kind, turn) = (turn % 4, turn / 4);
+    let (kind, turn) = (turn % 4, turn as usize / 4);
     let rectilinear = kind % 2 == 1;
+    let shape = |turn: usize| MOST[ORDER[turn % ORDER.len()]];
     match kind {
-        0 | 1 => Box::new(BigFit::draw(random, MOST[turn as usize % MOST.len()], rectilinear)),
-        _ if turn % 3 == 2 => {
-            Box::new(Over { subject: over(random, OVER[turn as usize / 3 % OVER.len()], rectilinear) })
-        }
-        _ => Box::new(BigList::draw(random, MOST[turn as usize * 5 % MOST.len()], rectilinear)),
+        0 | 1 => Box::new(BigFit::draw(random, shape(turn), rectilinear)),
+        _ if turn % 3 == 2 => Box::new(Over { subject: over(random, OVER[turn / 3 % OVER.len()], rectilinear) }),
+        _ => Box::new(BigList::draw(random, shape(turn - turn / 3), rectilinear)),
     }
 }
 

@@ -11,7 +11,7 @@ use crate::steps::StepCase;
 use std::hint::black_box;
 
 // One case in so many is as large as a map may be, or just too large.
-const BIG_EVERY: u64 = 10_000;
+const BIG_EVERY: u64 = 6_000;
 const FIRST_BIG: u64 = 1_000;
 
 pub trait Case {

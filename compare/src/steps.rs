@@ -143,7 +143,7 @@ impl<'a> Wanted<'a> {
         if is_whole {
             let line = if number == 0 { cells(fit.call.lengths(), axis, task.line) } else { Vec::new() };
             others_hold(&line, &held, got.coefs.inside())?;
-            self.judge(got)?;
+            self.judge("line", got)?;
         }
         Ok(())
     }
@@ -161,16 +161,17 @@ impl<'a> Wanted<'a> {
         guards("line, scratch", scratch)
     }
 
-    fn judge(&self, got: &Got) -> Outcome {
-        floats("line, coefficients", &self.coefs, got.coefs.inside())?;
-        bits("line, ledger", &self.ledger, got.ledger.inside())?;
-        guards("line, coefficients", &got.coefs)?;
-        guards("line, ledger", &got.ledger)
+    fn judge(&self, call: &str, got: &Got) -> Outcome {
+        let (of_coefs, of_ledger) = (format!("{call}, coefficients"), format!("{call}, ledger"));
+        floats(&of_coefs, &self.coefs, got.coefs.inside())?;
+        bits(&of_ledger, &self.ledger, got.ledger.inside())?;
+        guards(&of_coefs, &got.coefs)?;
+        guards(&of_ledger, &got.ledger)
     }
 
     // After the last call; a list that solves every line ends in the coefficients of the whole fit.
     fn end(&self, got: &Got, style: &str, counts: &mut Counts) -> Outcome {
-        self.judge(got)?;
+        self.judge("last line", got)?;
         let is_finished = self.book.is_finished();
         assert_eq!(is_finished, ends(style), "{style}");
         counts.class("task lists", &format!("{}, {style}", self.subject.fit.name()));
@@ -200,7 +201,7 @@ impl<'a> Wanted<'a> {
         guards("list, answers", &answers)?;
         guards("list, scratch", &scratch)?;
         self.subject.count(counts, "list", 0);
-        self.judge(&got)
+        self.judge("list", &got)
     }
 }
 
