@@ -4,20 +4,18 @@ use mathlib.Core.Path.{_≡_, refl, sym, ap, subst, _∙_}
 use mathlib.Core.Bool.{Bool, true, false, cond}
 use mathlib.Core.List.{List, [], _∷_, _++_}
 use Prim.Native.Nat.{ℕ, _+_, _*_, _≤_}
-use native.Mathlib.Omega.{arith}
 use lib.Dec.{eqb}
 use lib.ListN.{length, take, getD}
 use lib.Ieee.{Float, Format, nan}
-use borrow.Author.Tests.{eq-eqb}
 use Rattle.shape.specs.Cells.{put}
+use Rattle.shape.specs.declared.Shape.{Shape}
 use Rattle.shape.specs.Checks.{Check, refuse, firstRefusal, shapeChecks, lengthCheck, regularFitChecks}
-use Rattle.shape.specs.Fit.{Fitted}
 use Rattle.shape.proofs.Checks.{length-passes, length-passed}
 use Rattle.shape.proofs.Accepted.{prefix-passed, accepted-append, usable}
 use Rattle.evaluation.specs.Axes.{query, zeros}
 use Rattle.evaluation.specs.Spline.{Spline, gradient, valuedNumber, valuedValue, oneAnswer, OneValue, OneGradient, batchAnswer, gradientBatchAnswer}
 use Rattle.evaluation.specs.Built.{BuiltFrom}
-use Rattle.evaluation.specs.Batch.{Batch, badAt, valueStep, gradientStep, ValueBatch, GradientBatch}
+use Rattle.evaluation.specs.Batch.{badAt, valueStep, gradientStep, ValueBatch, GradientBatch}
 use Rattle.evaluation.specs.declared.answers.Valued.{Valued}
 use Rattle.evaluation.proofs.Outcomes.{gradient-written}
 use Rattle.multibspline.specs.Numbers.{f0}
@@ -26,7 +24,7 @@ use Rattle.regular_map.specs.Checks.{anyStepBad, mapAnswer, fromValuesAnswer, r
 use Rattle.rectilinear_map.specs.Map.{RectilinearMap, made, blank}
 use Rattle.knots.specs.Checks.{gridCheck}
 use Rattle.rectilinear_map.specs.Eval.{gridAnswer, mapChecks, rectilinear}
-use Rattle.capi.specs.Inputs.{lensOf}
+use Rattle.capi.specs.Inputs.{lensOf, shapeOf, fourFrom}
 use Rattle.capi.specs.Outputs.{Wrote, Handed}
 use Rattle.capi.specs.Splines.{withSlopes}
 use Rattle.capi.specs.Regular.{stepsOf, regularMap, readyChecks, regularChecks, regularSpline, fitChecks}
@@ -68,6 +66,12 @@ module _ (s : Spline) (x slopes : List Float) (few : s .axes ≤ 4) (whole : len
   wrote-gradient {a} w p =
       let same = w .answers ∙ sym sloped in
       record { answers = p .answers ∙ same; leaves = p .leaves ∙ written a (w .gradient) ∙ rw same }
+
+-- ---- a regular map, from the parts that the code makes
+
+pub regular-map-is : (dims : List ℕ) (grid : List Float) (linear : Bool) {s : Shape} {starts steps : List Float} → s ≡ shapeOf dims → starts ≡ fourFrom 0 grid → steps ≡ fourFrom (length dims) grid
+    → _≡_ {A = RegularMap} (record { count = length dims; lens = s .dims; starts = starts; steps = steps; linear = linear }) (regularMap dims grid linear)
+regular-map-is dims grid linear e b t = rw (e, b, t)
 
 -- ---- a regular map: the check of the grid's length passes
 

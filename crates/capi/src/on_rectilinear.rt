@@ -2,7 +2,6 @@
 ghost use mathlib.Core.Path.{_≡_};
 ghost use lib.ListN.{length};
 ghost use lib.Ieee.{binary64};
-ghost use Rattle.shape.specs.Checks.{firstRefusal};
 ghost use Rattle.shape.specs.Refusal.{answerNumber};
 ghost use Rattle.evaluation.specs.Axes.{query};
 ghost use Rattle.evaluation.specs.Spline.{oneAnswer};

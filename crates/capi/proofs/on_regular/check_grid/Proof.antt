@@ -1,6 +1,4 @@
-use mathlib.Core.Path.{sym, _∙_}
 use denote.Ref.{now}
-use lib.ListN.{length}
 use Rattle.ledger.proofs.Stages.{is-accepted, is-refused}
 use Rattle.capi.proofs.Guards.{ready-shape, ready-length, ready-passed}
 use borrow.Author.Needs.{needs}

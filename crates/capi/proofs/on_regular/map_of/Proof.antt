@@ -1,3 +1,6 @@
+use denote.Ref.{now}
+use Rattle.capi.specs.Inputs.{isOn}
+use Rattle.capi.proofs.Evaluated.{regular-map-is}
 use borrow.Author.Needs.{needs}
 use Rattle.capi.proofs.on_regular.map_of.Statement.{statement}
 use Rattle.capi.proofs.on_regular.map_of.Tie as tie
@@ -14,7 +17,9 @@ four-from-requires-2 c κs = search needs
 returns : tie.Need-returns
 returns c =
     let f = c .before in
-    rw (c .four-from2 .ensures, f .four-from .ensures, f .before .before .shape-of .ensures)
+    let h = f .before .before in
+    let a = h .before .before .before .args in
+    regular-map-is (now (a .dims)) (now (a .grid)) (isOn (a .linear)) (h .shape-of .ensures) (f .four-from .ensures) (c .four-from2 .ensures)
 
 pub map-of-spec : {M : Type 1} → statement M
 map-of-spec =

@@ -1,5 +1,3 @@
-use mathlib.Core.Path.{sym, ap, _∙_}
-use Rattle.evaluation.specs.Spline.{valuedNumber, valuedValue}
 use Rattle.capi.proofs.Guards.{put-accepted, put-refused}
 use borrow.Author.Needs.{needs}
 use Rattle.capi.proofs.outputs.put_value.Statement.{statement}
