@@ -32,15 +32,16 @@ pub fn row_at(n: usize, s: usize, first: usize, i: usize, len: usize) -> usize
     first * n + i * s
 }
 
-// How many of the lines from `first` on are solved together on the last axis.
+// How many of the lines from `first` on are solved together on the last axis: eight, or those that are left. With more of them
+// the cells of a row, n apart, can fall on the same few lines of the cache.
 pub fn bundle_size(first: usize, lines: usize) -> usize
     requires { ⌜ first < lines ⌝ }
     ensures { λ r. ⌜ (0 < r) × (first + r ≤ lines) ⌝ }
 {
-    if lines - first < 32 {
+    if lines - first < 8 {
         return lines - first;
     }
-    32
+    8
 }
 
 // Entry i of a line is put among the right sides.
