@@ -1,3 +1,4 @@
+pub mod Entries
 pub mod Queries
 pub mod Reach
 pub mod Batches

@@ -24,6 +24,7 @@ use Rattle.evaluation.specs.declared.answers.Valued.the-variants as Valu
 use Rattle.evaluation.specs.Axes.{zeros, parts, query}
 use Rattle.evaluation.specs.Spline.{Spline, gradient, valuedNumber, valuedValue, Answered, GradientAnswered, oneAnswer, OneValue, OneGradient, batchAnswer, gradientBatchAnswer}
 use Rattle.evaluation.specs.Batch.{badAt, valueStep, gradientStep, Entry}
+use Rattle.evaluation.proofs.Entries.{axis-at}
 use Rattle.evaluation.proofs.Batches.{entry-done, entry-refused, none}
 
 -- ---- a query whose lengths are right
@@ -43,14 +44,6 @@ module _ (s : Spline) (x : List Float) where
 
 -- ---- an entry of a batch
 
--- part k of a gradient, where axis k is in use
-pub part-at : (count : ℕ) (part : ℕ → Float) (k : ℕ) → k < count → count ≤ 4 → getD (parts count part) k nan ≡ part k
-part-at count part zero h few = rw (lt-ltb 0 count h)
-part-at count part (suc zero) h few = rw (lt-ltb 1 count h)
-part-at count part (suc (suc zero)) h few = rw (lt-ltb 2 count h)
-part-at count part (suc (suc (suc zero))) h few = rw (lt-ltb 3 count h)
-part-at count part (suc (suc (suc (suc k)))) h few = absurd (omega (arith, h, few))
-
 module _ (s : Spline) (xs : List Float) (n i : ℕ) (out : List Float) where
   pub value-entry : {r : Valued} {v : Float} → r ≡ Valued.Value v → Answered s (query (s .axes) xs n i) r → Entry (badAt s xs n i) (valueStep s xs n i) out 0 (set out i v)
   unfolding badAt valueStep
@@ -67,7 +60,7 @@ module _ (s : Spline) (xs : List Float) (n i : ℕ) (out : List Float) where
   -- the parts of a gradient, written one by one
   pub gradient-written : {ps out′ : List Float} → s .axes ≤ 4 → ps ≡ gradient s (query (s .axes) xs n i) → out′ ≡ put (λ k. k * n + i) (λ k. getD ps k nan) (s .axes) out → out′ ≡ gradientStep s xs n i out
   unfolding gradientStep
-  gradient-written few g e = e ∙ put-ext (λ k. k * n + i) _ _ (s .axes) out (λ k h. rw g (part-at (s .axes) (s .part (query (s .axes) xs n i)) k h few))
+  gradient-written few g e = e ∙ put-ext (λ k. k * n + i) _ _ (s .axes) out (λ k h. rw g (axis-at f0 nan (s .axes) (s .part (query (s .axes) xs n i)) k h few))
 
   pub gradient-entry : {y : Answer} {ps out′ : List Float} → s .axes ≤ 4 → y ≡ Accepted → GradientAnswered s (query (s .axes) xs n i) (answerNumber y) ps
       → out′ ≡ put (λ k. k * n + i) (λ k. getD ps k nan) (s .axes) out → Entry (badAt s xs n i) (gradientStep s xs n i) out 0 out′

@@ -12,4 +12,4 @@ pub use in_use::used_lens;
 pub use places::put_parts;
 pub use places::query;
 pub use sums::gradient_from;
-pub use sums::value_from;
+pub use sums::strides_of;

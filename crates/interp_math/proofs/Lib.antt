@@ -1,5 +1,3 @@
-pub mod Carried
-pub mod Digits
 pub mod Four
+pub mod Levels
 pub mod Sums
-pub mod Table

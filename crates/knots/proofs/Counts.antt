@@ -1,14 +1,16 @@
 -- Laws of the count of knots below a query, and what a search by halves keeps. Assumes nothing.
 use mathlib.Core.Path.{_≡_, refl, sym, _∙_}
-use mathlib.Core.Logic.{inl, inr}
+use mathlib.Core.Logic.{inl, inr, _⊎_}
 use mathlib.Core.Bool.{Bool, true, false, cond}
 use mathlib.Core.List.{List, [], _∷_}
 use Prim.Native.Nat.{ℕ, zero, suc, _+_, _≤_, _<_}
 use native.Mathlib.Nat.{eq-or-lt-of-le}
 use native.Mathlib.Omega.{arith}
+use lib.Dec.{leb}
 use lib.ListN.{length, getD}
+use borrow.Author.Tests.{leb-true, leb-false}
 use lib.Ieee.{Float, nan, inf, fin, lt}
-use Rattle.knots.specs.Knots.{rises, countBelow}
+use Rattle.knots.specs.Knots.{rises, countBelow, Between}
 use Rattle.knots.proofs.Compare.{lt-trans-float}
 use Rattle.knots.proofs.Increase.{in-order}
 
@@ -47,12 +49,6 @@ counted (k ∷ ks) x (suc c) h low high =
 
 -- ---- the search: the knots before low are below x, those from high on are not
 
-pub record Between (ks : List Float) (x : Float) (low high : ℕ) : Type 0 where
-  pub low-high : low ≤ high
-  pub high-end : high ≤ length ks
-  pub below : (i : ℕ) → i < low → lt (getD ks i nan) x ≡ true
-  pub not-below : (i : ℕ) → high ≤ i → i < length ks → lt (getD ks i nan) x ≡ false
-
 pub between-start : (ks : List Float) (x : Float) → Between ks x 0 (length ks)
 between-start ks x = record {
   low-high = omega arith;
@@ -60,10 +56,6 @@ between-start ks x = record {
   below = λ i h. absurd (let q : ⊥ = omega arith in q);
   not-below = λ i h g. absurd (let q : ⊥ = omega arith in q);
 }
-
-pub between-done : {ks : List Float} {x : Float} {low high : ℕ} → Between ks x low high → high ≤ low → low ≡ countBelow ks x
-between-done {ks} {x} {low} b h =
-    sym (counted ks x low (omega arith) (b .below) (λ i l g. b .not-below i (omega arith) g))
 
 -- where knot mid is below x, so are those before it
 lower : (ks : List Float) → rises ks ≡ true → (x : Float) (i mid : ℕ) → i ≤ mid → mid < length ks → lt (getD ks mid nan) x ≡ true → lt (getD ks i nan) x ≡ true
@@ -96,3 +88,69 @@ module _ {ks : List Float} {x : Float} {low high : ℕ} (b : Between ks x low hi
     below = b .below;
     not-below = λ i l g. upper ks rise x mid i l g h;
   }
+
+-- ---- counting what is left: of the knots before i, those before c are below x and the others are not
+
+pub record Counting (ks : List Float) (x : Float) (high c i : ℕ) : Type 0 where
+  pub some : c ≤ i
+  pub most : i ≤ high
+  pub high-end : high ≤ length ks
+  pub below : (k : ℕ) → k < c → lt (getD ks k nan) x ≡ true
+  pub not-below : (k : ℕ) → c ≤ k → k < i → lt (getD ks k nan) x ≡ false
+  pub rest : (k : ℕ) → high ≤ k → k < length ks → lt (getD ks k nan) x ≡ false
+
+pub counting-start : {ks : List Float} {x : Float} {low high : ℕ} → Between ks x low high → Counting ks x high low low
+counting-start b = record {
+  some = omega arith;
+  most = b .low-high;
+  high-end = b .high-end;
+  below = b .below;
+  not-below = λ k h g. absurd (let q : ⊥ = omega arith in q);
+  rest = b .not-below;
+}
+
+module _ {ks : List Float} {x : Float} {high c i : ℕ} (w : Counting ks x high c i) where
+  -- a knot below x has none before it that is not
+  pub counting-more : rises ks ≡ true → i < high → lt (getD ks i nan) x ≡ true → Counting ks x high (c + 1) (i + 1)
+  counting-more rise h e =
+      elim (eq-or-lt-of-le (w .some)) [
+        | inl q ↦ record {
+          some = omega arith;
+          most = omega arith;
+          high-end = w .high-end;
+          below = λ k l. lower ks rise x k i (omega arith) (omega (arith, w .high-end)) e;
+          not-below = λ k l g. absurd (let z : ⊥ = omega arith in z);
+          rest = w .rest;
+        }
+        | inr q ↦ absurd (mixed (lower ks rise x c i (omega arith) (omega (arith, w .high-end)) e) (w .not-below c (omega arith) q))
+      ]
+    where
+      mixed : {b : Bool} → b ≡ true → b ≡ false → ⊥
+      mixed p q = let z : _≡_ {A = ℕ} 0 1 = cc in let y : ⊥ = omega arith in y
+
+  pub counting-same : i < high → lt (getD ks i nan) x ≡ false → Counting ks x high c (i + 1)
+  counting-same h e = record {
+    some = omega (arith, w .some);
+    most = omega arith;
+    high-end = w .high-end;
+    below = w .below;
+    not-below = λ k l g. elim (eq-or-lt-of-le (let q : k ≤ i = omega arith in q)) [
+      | inl q ↦ rw q e
+      | inr q ↦ w .not-below k l q
+    ];
+    rest = w .rest;
+  }
+
+  pub counting-done : high ≤ i → c ≡ countBelow ks x
+  counting-done h =
+      sym (counted ks x c (omega (arith, w .some, w .most, w .high-end)) (w .below) (λ k l g. elim (le-or-lt high k) [
+        | inl q ↦ w .rest k q g
+        | inr q ↦ w .not-below k l (omega arith)
+      ]))
+    where
+      le-or-lt : (a b : ℕ) → (a ≤ b) ⊎ (b < a)
+      le-or-lt a b = go (leb a b) refl
+        where
+          go : (t : Bool) → leb a b ≡ t → (a ≤ b) ⊎ (b < a)
+          go true p = inl (leb-true a b p)
+          go false p = inr (leb-false a b p)

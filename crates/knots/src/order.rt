@@ -4,7 +4,7 @@ ghost use mathlib.Core.Bool.{true};
 ghost use Prim.Native.Nat.{_≤_};
 ghost use lib.ListN.{length, take};
 ghost use Rattle.shape.specs.Usable.{Usable};
-ghost use Rattle.knots.specs.Knots.{rises, countBelow};
+ghost use Rattle.knots.specs.Knots.{rises, countBelow, Between};
 ghost use Rattle.knots.specs.Joined.{total, allRise};
 use crate::joined::axis_knots;
 
@@ -37,14 +37,33 @@ pub fn all_rise(grid: &[f64], count: usize, dims: [usize; 4]) -> bool
     true
 }
 
-// How many knots are below x. Those before `low` are, those from `high` on are not; what is between is halved.
+// How many knots are below x, where that is from `low` to `high`. All between are looked at, with no early exit: on a few
+// knots that is faster than halving on.
+fn count_between(knots: &[f64], x: f64, low: usize, high: usize) -> usize
+    requires { ⌜ (rises (now knots) ≡ true) × Between (now knots) x low high ⌝ }
+    ensures { λ r. ⌜ (r ≡ countBelow (now (knots .entry)) x) × (r ≤ length (now (knots .entry))) ⌝ }
+{
+    let mut count = low;
+    let mut i = low;
+    while i < high {
+        if knots[i] < x {
+            count += 1;
+            i += 1;
+        } else {
+            i += 1;
+        }
+    }
+    count
+}
+
+// How many knots are below x. Those before `low` are, those from `high` on are not; what is between is halved to 32.
 pub fn count_below(knots: &[f64], x: f64) -> usize
     requires { ⌜ rises (now knots) ≡ true ⌝ }
     ensures { λ r. ⌜ (r ≡ countBelow (now (knots .entry)) x) × (r ≤ length (now (knots .entry))) ⌝ }
 {
     let mut low: usize = 0;
     let mut high = knots.len();
-    while low < high {
+    while low + 32 < high {
         let mid = low + (high - low) / 2;
         if knots[mid] < x {
             low = mid + 1;
@@ -52,5 +71,5 @@ pub fn count_below(knots: &[f64], x: f64) -> usize
             high = mid;
         }
     }
-    low
+    count_between(knots, x, low, high)
 }

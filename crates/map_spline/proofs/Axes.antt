@@ -13,7 +13,7 @@ use Rattle.shape.specs.Below.{anyBelow}
 use Rattle.shape.proofs.Below.{NoneYet, none-step, one-found}
 use Rattle.multibspline.specs.Numbers.{f0}
 use Rattle.evaluation.specs.Axes.{perAxis, inUse, query}
-use Rattle.evaluation.proofs.Outcomes.{part-at}
+use Rattle.evaluation.proofs.Entries.{axis-at}
 
 -- ---- a test of the axes in turn
 
@@ -45,7 +45,7 @@ in-use o z count xs ys same = per-axis z count (λ a. getD xs a o) (λ a. getD y
 module _ (count : ℕ) (xs : List Float) (few : count ≤ 4) where
   query-at : (a : ℕ) → a < count → getD (query count xs 1 0) a nan ≡ getD xs a nan
   unfolding query
-  query-at a h = part-at count (λ k. getD xs (k * 1 + 0) nan) a h few ∙ ap (λ (k : ℕ). getD xs k nan) (let q : a * 1 + 0 ≡ a = omega arith in q)
+  query-at a h = axis-at _ nan count (λ k. getD xs (k * 1 + 0) nan) a h few ∙ ap (λ (k : ℕ). getD xs k nan) (let q : a * 1 + 0 ≡ a = omega arith in q)
 
   pub query-in-use : inUse nan f0 count (query count xs 1 0) ≡ inUse nan f0 count xs
   query-in-use = in-use nan f0 count (query count xs 1 0) xs query-at

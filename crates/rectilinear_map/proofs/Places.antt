@@ -1,15 +1,13 @@
 -- The places of a query on the axes of a map: rows of weights and slopes, and the first of the coefficients that count. For
 -- every format. Assumes nothing.
 use mathlib.Core.Path.{_≡_, refl, sym, ap, _∙_}
-use mathlib.Core.Bool.{true, cond}
+use mathlib.Core.Bool.{true}
 use mathlib.Core.List.{List, []}
 use Prim.Native.Nat.{ℕ, zero, suc, _+_, _*_, _-_, _≤_, _<_}
 use native.Mathlib.Omega.{arith}
 use native.Mathlib.Numerals.{add-one}
-use lib.Dec.{ltb}
 use lib.ListN.{length, getD, take}
 use lib.Ieee.{Float, Format, nan}
-use borrow.Author.Tests.{lt-ltb}
 use Rattle.shape.specs.Shape.{points}
 use Rattle.shape.specs.Sizes.{strideOf}
 use Rattle.shape.specs.Usable.{Usable}
@@ -20,7 +18,9 @@ use Rattle.knots.specs.declared.place.Loc.{Loc}
 use Rattle.knots.proofs.Totals.{part-length, part-long, axis-rises}
 use Rattle.knots.proofs.Places.{get-loc-within}
 use Rattle.rectilinear_weights.specs.Weights.{interpWeights, interpWeightDerivatives}
-use Rattle.evaluation.specs.Axes.{zeros, rows, parts, Reaches, valueFrom, gradientFrom}
+use Rattle.interp_math.specs.Sum.{summed, gradientPart}
+use Rattle.evaluation.specs.Axes.{strides, parts, Reaches, RowsOn}
+use Rattle.evaluation.proofs.Entries.{value-rows, gradient-rows}
 use Rattle.evaluation.proofs.Reach.{Below, below-start, below-next, below-reaches}
 use Rattle.rectilinear_map.specs.Map.{RectilinearMap}
 use Rattle.rectilinear_map.specs.Eval.{locOn, firstOn, weightsOn, slopesOn, valueAt, partAt}
@@ -67,25 +67,27 @@ module _ (count : ℕ) (lens : List ℕ) (grid x : List Float) where
   reaches coefs four s e =
       rw e (below-reaches count lens four (s .gridded .shape) (firstOn count lens grid x count) coefs (first-below four (s .gridded) count (omega arith)) (s .sized))
 
--- ---- the figures of a map
+-- ---- the figures of a map, by the strides and the rows that were worked out
 
-module _ (f : Format) (m : RectilinearMap) (grid coefs x : List Float) where
-  pub value-is : {first : ℕ} {ws : List (List Float)} {v : Float} → first ≡ firstOn (m .count) (m .lens) grid x (m .count) → ws ≡ rows (m .count) (weightsOn f m grid x)
-      → v ≡ valueFrom f (m .count) (m .lens) coefs ws first → v ≡ valueAt f m grid coefs x
+module _ (f : Format) (m : RectilinearMap) (grid coefs x : List Float) {first : ℕ} (ef : first ≡ firstOn (m .count) (m .lens) grid x (m .count)) {ss : List ℕ} (es : ss ≡ strides (m .count) (m .lens)) (few : m .count ≤ 4) {ws : List (List Float)} (w : RowsOn (m .count) (weightsOn f m grid x) ws) where
+  pub value-is : {v : Float} → v ≡ summed f coefs ss ws (m .count) first → v ≡ valueAt f m grid coefs x
   unfolding valueAt
-  value-is ef ew e = rw (← ew, ← ef) e
+  value-is e = rw (← ef) (rw es at e ∙ value-rows f coefs (strides (m .count) (m .lens)) (m .count) first few (weightsOn f m grid x) w)
 
-  pub gradient-is : {first : ℕ} {ws ss : List (List Float)} {ps : List Float} → first ≡ firstOn (m .count) (m .lens) grid x (m .count) → ws ≡ rows (m .count) (weightsOn f m grid x) → ss ≡ rows (m .count) (slopesOn f m grid x)
-      → ps ≡ parts (m .count) (gradientFrom f (m .count) (m .lens) coefs ws ss first) → ps ≡ parts (m .count) (partAt f m grid coefs x)
+  pub gradient-is : {ds : List (List Float)} {ps : List Float} → RowsOn (m .count) (slopesOn f m grid x) ds → ps ≡ parts (m .count) (gradientPart f coefs ss ws ds (m .count) first) → ps ≡ parts (m .count) (partAt f m grid coefs x)
   unfolding partAt
-  gradient-is ef ew es e = rw (← ew, ← es, ← ef) e
+  gradient-is d e = rw (← ef) (rw es at e ∙ gradient-rows f coefs (strides (m .count) (m .lens)) (m .count) first few (weightsOn f m grid x) w (slopesOn f m grid x) d)
 
--- the weights and the slopes of an axis in use
-module _ (f : Format) (m : RectilinearMap) (grid x : List Float) {a : ℕ} {ks low high : List Float} (h : a < m .count) (part : ks ≡ knotsOf grid (take (m .count) (m .lens)) a) (el : low ≡ getD (m .low) a []) (eh : high ≡ getD (m .high) a []) where
-  pub weights-used : {r : List Float} → r ≡ interpWeights f ks low high (m .linear) (getLoc ks (getD x a nan) .span) (getD x a nan) (getLoc ks (getD x a nan) .sat) → r ≡ cond (ltb a (m .count)) (weightsOn f m grid x a) zeros
+-- what was found on axis a, by the part ks of the grid and the coordinate y
+pub origin-on : (count : ℕ) (lens : List ℕ) (grid x : List Float) (a : ℕ) {ks : List Float} {y : Float} {o : ℕ} → ks ≡ knotsOf grid (take count lens) a → y ≡ getD x a nan → o ≡ getLoc ks y .origin → o ≡ locOn count lens grid x a .origin
+unfolding locOn
+origin-on count lens grid x a part ey e = rw (← part, ← ey) e
+
+module _ (f : Format) (m : RectilinearMap) (grid x : List Float) (a : ℕ) {ks : List Float} {y : Float} (part : ks ≡ knotsOf grid (take (m .count) (m .lens)) a) (ey : y ≡ getD x a nan) {low high : List Float} (el : low ≡ getD (m .low) a []) (eh : high ≡ getD (m .high) a []) where
+  pub weights-on : {r : List Float} → r ≡ interpWeights f ks low high (m .linear) (getLoc ks y .span) y (getLoc ks y .sat) → r ≡ weightsOn f m grid x a
   unfolding weightsOn locOn
-  weights-used e = rw (lt-ltb a (m .count) h, ← part, ← el, ← eh) e
+  weights-on e = rw (← part, ← ey, ← el, ← eh) e
 
-  pub slopes-used : {r : List Float} → r ≡ interpWeightDerivatives f ks low high (m .linear) (getLoc ks (getD x a nan) .span) (getD x a nan) (getLoc ks (getD x a nan) .sat) → r ≡ cond (ltb a (m .count)) (slopesOn f m grid x a) zeros
+  pub slopes-on : {r : List Float} → r ≡ interpWeightDerivatives f ks low high (m .linear) (getLoc ks y .span) y (getLoc ks y .sat) → r ≡ slopesOn f m grid x a
   unfolding slopesOn locOn
-  slopes-used e = rw (lt-ltb a (m .count) h, ← part, ← el, ← eh) e
+  slopes-on e = rw (← part, ← ey, ← el, ← eh) e

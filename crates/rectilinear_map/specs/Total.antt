@@ -9,7 +9,8 @@ use lib.ListN.{length, take}
 use lib.Ieee.{Float, Format}
 use Rattle.shape.specs.Shape.{size}
 use Rattle.shape.specs.Usable.{Usable}
-use Rattle.knots.specs.Joined.{total, allRise}
+use Rattle.knots.specs.Joined.{total, offsets, allRise}
+use Rattle.evaluation.specs.Axes.{strides}
 use Rattle.evaluation.specs.Spline.{oneAnswer, batchAnswer, gradientBatchAnswer}
 use Rattle.rectilinear_map.specs.Map.{RectilinearMap}
 use Rattle.rectilinear_map.specs.Eval.{mapAnswer, rectilinear}
@@ -24,6 +25,13 @@ pub record Gridded (count : ℕ) (lens : List ℕ) (grid : List Float) : Type 0 
 pub record Sound (count : ℕ) (lens : List ℕ) (grid : List Float) (coefs : ℕ) : Type 0 where
   pub gridded : Gridded count lens grid
   pub sized : coefs ≡ size (take count lens)
+
+-- what the functions that evaluate a query are handed: strides and offsets worked out
+pub record Laid (count : ℕ) (lens : List ℕ) (grid : List Float) (ss from : List ℕ) : Type 0 where
+  pub gridded : Gridded count lens grid
+  pub four : length lens ≡ 4
+  pub strides-are : ss ≡ strides count lens
+  pub offsets-are : from ≡ offsets count lens
 
 -- building, and the checks of every call
 abbrev pub MapTotal : Type 0

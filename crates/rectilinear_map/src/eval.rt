@@ -1,182 +1,189 @@
-// The value and the gradient of a rectilinear map at one query. Queries are arrays of four, zeros for axes not in use.
+// The value and the gradient of a rectilinear map at one query: query i of n, of coordinates that stand axis after axis. The
+// place on each axis is found once.
 ghost use mathlib.Core.Path.{_≡_};
-ghost use mathlib.Core.Bool.{Bool, cond};
-ghost use Prim.Native.Nat.{_<_};
-ghost use lib.Dec.{ltb};
-ghost use lib.ListN.{length};
+ghost use Prim.Native.Nat.{_*_, _≤_, _<_};
+ghost use lib.ListN.{length, take};
 ghost use lib.Ieee.{binary64};
+ghost use Rattle.shape.specs.Shape.{size};
 ghost use Rattle.shape.specs.Refusal.{answerNumber};
-ghost use Rattle.evaluation.specs.Axes.{rows, parts, zeros};
+ghost use Rattle.evaluation.specs.Axes.{query, parts, RowsOn};
 ghost use Rattle.evaluation.specs.Spline.{OneValue, OneGradient};
 ghost use Rattle.rectilinear_map.specs.Map.{RectilinearMap, ghosts};
-ghost use Rattle.rectilinear_map.specs.Eval.{locOn, firstOn, weightsOn, slopesOn, valueAt, partAt, rectilinear};
-ghost use Rattle.rectilinear_map.specs.Total.{Gridded, Sound};
-use crate::axis::slopes_row;
-use crate::axis::weights_row;
+ghost use Rattle.rectilinear_map.specs.Eval.{firstOn, weightsOn, slopesOn, valueAt, partAt, rectilinear};
+ghost use Rattle.rectilinear_map.specs.Total.{Laid};
+use crate::axis::weigh;
+use crate::axis::weigh_both;
 use crate::build::check_map;
 use evaluation::Gradient;
 use evaluation::Valued;
 use evaluation::gradient_from;
-use evaluation::query;
 use evaluation::refused_gradient;
-use evaluation::value_from;
-use knots::axis_knots;
-use knots::get_loc;
+use evaluation::strides_of;
+use interp_math::weighted;
+use knots::offsets;
 use rectilinear_weights::Ghost;
 use shape::Answer;
 use shape::Refusal;
-use shape::Shape;
 
-// The first coefficient that counts on axis a.
-fn origin_on(count: usize, dims: [usize; 4], grid: &[f64], x: [f64; 4], a: usize) -> usize
-    requires { ⌜ Gridded count dims (now grid) × (a < count) ⌝ }
-    ensures { λ r. ⌜ r ≡ locOn count dims (now (grid .entry)) x a .origin ⌝ }
+// The first of the coefficients that count, the sum of origin times stride over the axes, with the weights of each axis
+// written. What the rows of axes not in use hold is left, and is not looked at.
+fn weigh_axes(
+    count: usize,
+    dims: &[usize; 4],
+    low: [Ghost; 4],
+    high: [Ghost; 4],
+    linear: bool,
+    strides: &[usize; 4],
+    offsets: &[usize; 4],
+    grid: &[f64],
+    xs: &[f64],
+    n: usize,
+    i: usize,
+    weights: &mut [[f64; 4]; 4],
+) -> usize
+    requires { ⌜ Laid count (now dims) (now grid) (now strides) (now offsets) × (count ≤ 4) × (i < n) × (count * n ≤ length (now xs)) × (length (now weights) ≡ 4) ⌝ }
+    ensures { λ r. ⌜ r ≡ firstOn count (now (dims .entry)) (now (grid .entry)) (query count (now (xs .entry)) n i) count ⌝ }
+    ensures { λ _. ⌜ RowsOn count (weightsOn binary64 (record { count = count; lens = now (dims .entry); low = ghosts low; high = ghosts high; linear = linear }) (now (grid .entry)) (query count (now (xs .entry)) n i)) (now (weights .exit)) ⌝ }
 {
-    let knots = axis_knots(grid, count, dims, a);
-    let loc = get_loc(knots, x[a]);
-    loc.origin
-}
-
-// The first of the coefficients that count: the sum of origin times stride over the axes.
-fn first_of(count: usize, dims: [usize; 4], grid: &[f64], x: [f64; 4]) -> usize
-    requires { ⌜ Gridded count dims (now grid) ⌝ }
-    ensures { λ r. ⌜ r ≡ firstOn count dims (now (grid .entry)) x count ⌝ }
-{
-    let shape = Shape { count, dims };
     let mut first: usize = 0;
     let mut a: usize = 0;
     while a < count {
-        first += origin_on(count, dims, grid, x, a) * shape.stride(a);
+        let from = offsets[a];
+        let to = from + dims[a];
+        let mut row = [0.0f64; 4];
+        let origin = weigh(
+            &grid[from..to],
+            low[a],
+            high[a],
+            linear,
+            xs[a * n + i],
+            &mut row,
+        );
+        first += origin * strides[a];
+        weights[a] = row;
         a += 1;
     }
     first
 }
 
-// The weights of axis a, or zeros where it is not in use.
-fn weights_on(
+// The same, with the slopes of each axis written too.
+fn weigh_axes_both(
     count: usize,
-    dims: [usize; 4],
+    dims: &[usize; 4],
     low: [Ghost; 4],
     high: [Ghost; 4],
     linear: bool,
+    strides: &[usize; 4],
+    offsets: &[usize; 4],
     grid: &[f64],
-    x: [f64; 4],
-    a: usize,
-) -> [f64; 4]
-    requires { ⌜ Gridded count dims (now grid) × (a < 4) ⌝ }
-    ensures { λ r. ⌜ r ≡ cond (ltb a count) (weightsOn binary64 (record { count = count; lens = dims; low = ghosts low; high = ghosts high; linear = linear }) (now (grid .entry)) x a) zeros ⌝ }
+    xs: &[f64],
+    n: usize,
+    i: usize,
+    weights: &mut [[f64; 4]; 4],
+    slopes: &mut [[f64; 4]; 4],
+) -> usize
+    requires { ⌜ Laid count (now dims) (now grid) (now strides) (now offsets) × (count ≤ 4) × (i < n) × (count * n ≤ length (now xs)) × (length (now weights) ≡ 4) × (length (now slopes) ≡ 4) ⌝ }
+    ensures { λ r. ⌜ r ≡ firstOn count (now (dims .entry)) (now (grid .entry)) (query count (now (xs .entry)) n i) count ⌝ }
+    ensures { λ _. ⌜ RowsOn count (weightsOn binary64 (record { count = count; lens = now (dims .entry); low = ghosts low; high = ghosts high; linear = linear }) (now (grid .entry)) (query count (now (xs .entry)) n i)) (now (weights .exit)) × RowsOn count (slopesOn binary64 (record { count = count; lens = now (dims .entry); low = ghosts low; high = ghosts high; linear = linear }) (now (grid .entry)) (query count (now (xs .entry)) n i)) (now (slopes .exit)) ⌝ }
 {
-    if count <= a {
-        return [0.0, 0.0, 0.0, 0.0];
+    let mut first: usize = 0;
+    let mut a: usize = 0;
+    while a < count {
+        let from = offsets[a];
+        let to = from + dims[a];
+        let mut row = [0.0f64; 4];
+        let mut slope = [0.0f64; 4];
+        let origin = weigh_both(
+            &grid[from..to],
+            low[a],
+            high[a],
+            linear,
+            xs[a * n + i],
+            &mut row,
+            &mut slope,
+        );
+        first += origin * strides[a];
+        weights[a] = row;
+        slopes[a] = slope;
+        a += 1;
     }
-    let knots = axis_knots(grid, count, dims, a);
-    let low_ghost = low[a];
-    let high_ghost = high[a];
-    weights_row(knots, low_ghost, high_ghost, linear, x[a])
-}
-
-// The slopes of axis a, or zeros where it is not in use.
-fn slopes_on(
-    count: usize,
-    dims: [usize; 4],
-    low: [Ghost; 4],
-    high: [Ghost; 4],
-    linear: bool,
-    grid: &[f64],
-    x: [f64; 4],
-    a: usize,
-) -> [f64; 4]
-    requires { ⌜ Gridded count dims (now grid) × (a < 4) ⌝ }
-    ensures { λ r. ⌜ r ≡ cond (ltb a count) (slopesOn binary64 (record { count = count; lens = dims; low = ghosts low; high = ghosts high; linear = linear }) (now (grid .entry)) x a) zeros ⌝ }
-{
-    if count <= a {
-        return [0.0, 0.0, 0.0, 0.0];
-    }
-    let knots = axis_knots(grid, count, dims, a);
-    let low_ghost = low[a];
-    let high_ghost = high[a];
-    slopes_row(knots, low_ghost, high_ghost, linear, x[a])
-}
-
-// The four weights of each axis.
-fn weights_of(
-    count: usize,
-    dims: [usize; 4],
-    low: [Ghost; 4],
-    high: [Ghost; 4],
-    linear: bool,
-    grid: &[f64],
-    x: [f64; 4],
-) -> [[f64; 4]; 4]
-    requires { ⌜ Gridded count dims (now grid) ⌝ }
-    ensures { λ r. ⌜ r ≡ rows count (weightsOn binary64 (record { count = count; lens = dims; low = ghosts low; high = ghosts high; linear = linear }) (now (grid .entry)) x) ⌝ }
-{
-    [
-        weights_on(count, dims, low, high, linear, grid, x, 0),
-        weights_on(count, dims, low, high, linear, grid, x, 1),
-        weights_on(count, dims, low, high, linear, grid, x, 2),
-        weights_on(count, dims, low, high, linear, grid, x, 3),
-    ]
-}
-
-// The four slopes of each axis.
-fn slopes_of(
-    count: usize,
-    dims: [usize; 4],
-    low: [Ghost; 4],
-    high: [Ghost; 4],
-    linear: bool,
-    grid: &[f64],
-    x: [f64; 4],
-) -> [[f64; 4]; 4]
-    requires { ⌜ Gridded count dims (now grid) ⌝ }
-    ensures { λ r. ⌜ r ≡ rows count (slopesOn binary64 (record { count = count; lens = dims; low = ghosts low; high = ghosts high; linear = linear }) (now (grid .entry)) x) ⌝ }
-{
-    [
-        slopes_on(count, dims, low, high, linear, grid, x, 0),
-        slopes_on(count, dims, low, high, linear, grid, x, 1),
-        slopes_on(count, dims, low, high, linear, grid, x, 2),
-        slopes_on(count, dims, low, high, linear, grid, x, 3),
-    ]
+    first
 }
 
 // The value at a query.
 pub fn value_at(
     count: usize,
-    dims: [usize; 4],
+    dims: &[usize; 4],
     low: [Ghost; 4],
     high: [Ghost; 4],
     linear: bool,
+    strides: &[usize; 4],
+    offsets: &[usize; 4],
     grid: &[f64],
     coeffs: &[f64],
-    x: [f64; 4],
+    xs: &[f64],
+    n: usize,
+    i: usize,
 ) -> f64
-    requires { ⌜ Sound count dims (now grid) (length (now coeffs)) ⌝ }
-    ensures { λ r. ⌜ r ≡ valueAt binary64 (record { count = count; lens = dims; low = ghosts low; high = ghosts high; linear = linear }) (now (grid .entry)) (now (coeffs .entry)) x ⌝ }
+    requires { ⌜ Laid count (now dims) (now grid) (now strides) (now offsets) × (i < n) × (count * n ≤ length (now xs)) ⌝ }
+    requires { ⌜ length (now coeffs) ≡ size (take count (now dims)) ⌝ }
+    ensures { λ r. ⌜ r ≡ valueAt binary64 (record { count = count; lens = now (dims .entry); low = ghosts low; high = ghosts high; linear = linear }) (now (grid .entry)) (now (coeffs .entry)) (query count (now (xs .entry)) n i) ⌝ }
 {
-    let first = first_of(count, dims, grid, x);
-    let weights = weights_of(count, dims, low, high, linear, grid, x);
-    value_from(coeffs, count, dims, first, weights)
+    let mut weights = [[0.0f64; 4]; 4];
+    let first = weigh_axes(
+        count,
+        dims,
+        low,
+        high,
+        linear,
+        strides,
+        offsets,
+        grid,
+        xs,
+        n,
+        i,
+        &mut weights,
+    );
+    weighted(coeffs, strides, &weights, count, first)
 }
 
 // The gradient at a query.
 pub fn gradient_at(
     count: usize,
-    dims: [usize; 4],
+    dims: &[usize; 4],
     low: [Ghost; 4],
     high: [Ghost; 4],
     linear: bool,
+    strides: &[usize; 4],
+    offsets: &[usize; 4],
     grid: &[f64],
     coeffs: &[f64],
-    x: [f64; 4],
+    xs: &[f64],
+    n: usize,
+    i: usize,
 ) -> [f64; 4]
-    requires { ⌜ Sound count dims (now grid) (length (now coeffs)) ⌝ }
-    ensures { λ r. ⌜ r ≡ parts count (partAt binary64 (record { count = count; lens = dims; low = ghosts low; high = ghosts high; linear = linear }) (now (grid .entry)) (now (coeffs .entry)) x) ⌝ }
+    requires { ⌜ Laid count (now dims) (now grid) (now strides) (now offsets) × (i < n) × (count * n ≤ length (now xs)) ⌝ }
+    requires { ⌜ length (now coeffs) ≡ size (take count (now dims)) ⌝ }
+    ensures { λ r. ⌜ r ≡ parts count (partAt binary64 (record { count = count; lens = now (dims .entry); low = ghosts low; high = ghosts high; linear = linear }) (now (grid .entry)) (now (coeffs .entry)) (query count (now (xs .entry)) n i)) ⌝ }
 {
-    let first = first_of(count, dims, grid, x);
-    let weights = weights_of(count, dims, low, high, linear, grid, x);
-    let slopes = slopes_of(count, dims, low, high, linear, grid, x);
-    gradient_from(coeffs, count, dims, first, weights, slopes)
+    let mut weights = [[0.0f64; 4]; 4];
+    let mut slopes = [[0.0f64; 4]; 4];
+    let first = weigh_axes_both(
+        count,
+        dims,
+        low,
+        high,
+        linear,
+        strides,
+        offsets,
+        grid,
+        xs,
+        n,
+        i,
+        &mut weights,
+        &mut slopes,
+    );
+    gradient_from(coeffs, strides, &weights, &slopes, count, first)
 }
 
 // The value of a single query.
@@ -198,8 +205,22 @@ pub fn one(
     if x.len() != count {
         return Valued::Refused(Refusal::DimensionMismatch);
     }
-    let q = query(x, 1, 0, count);
-    Valued::Value(value_at(count, dims, low, high, linear, grid, coeffs, q))
+    let strides = strides_of(count, dims);
+    let offsets = offsets(count, dims);
+    Valued::Value(value_at(
+        count,
+        &dims,
+        low,
+        high,
+        linear,
+        &strides,
+        &offsets,
+        grid,
+        coeffs,
+        x,
+        1,
+        0,
+    ))
 }
 
 // The gradient of a single query.
@@ -221,8 +242,22 @@ pub fn one_grad(
     if x.len() != count {
         return refused_gradient(Refusal::DimensionMismatch);
     }
-    let q = query(x, 1, 0, count);
-    let parts = gradient_at(count, dims, low, high, linear, grid, coeffs, q);
+    let strides = strides_of(count, dims);
+    let offsets = offsets(count, dims);
+    let parts = gradient_at(
+        count,
+        &dims,
+        low,
+        high,
+        linear,
+        &strides,
+        &offsets,
+        grid,
+        coeffs,
+        x,
+        1,
+        0,
+    );
     Gradient {
         answer: Answer::Accepted,
         parts: parts,

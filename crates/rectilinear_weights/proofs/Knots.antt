@@ -2,7 +2,7 @@
 -- differences. Assumes nothing.
 use mathlib.Core.Path.{_≡_, refl, ap}
 use mathlib.Core.Logic.{⊎-elim}
-use mathlib.Core.List.{[], _∷_}
+use mathlib.Core.List.{List, [], _∷_}
 use Prim.Native.Nat.{ℕ, zero, suc, _+_, _-_, _≤_, _<_}
 use native.Mathlib.Omega.{arith}
 use borrow.Author.Tests.{lt-ltb, le-ltb}
@@ -11,7 +11,7 @@ use lib.Ieee.{Float, Format, binary32, binary64, neg, ofInt}
 use Rattle.shape.proofs.Cells.{lt-or-ge}
 use Rattle.multibspline.specs.Numbers.{f0}
 use Rattle.multibspline.specs.Thomas.{at}
-use Rattle.rectilinear_weights.specs.Basis.{four, basis}
+use Rattle.rectilinear_weights.specs.Basis.{left, right, four, basis, spanKnots, weightsBetween, basisSpanWeights}
 
 -- the numbers of the two knots before the first, as floats
 pub before-first : (f : Format) (p : ℕ) → p < 2 → neg (ofInt f (pos (2 - p))) ≡ ofInt f (negsuc (2 - suc p))
@@ -23,17 +23,28 @@ before-first binary64 (suc zero) h = refl
 before-first f (suc (suc p)) h = absurd (omega arith)
 
 -- the knots of left(j) and right(j)
-pub left-number : (i j : ℕ) → j ≤ 3 → subℕ (i + 3 - j) 2 ≡ subℕ (i + 1) j
+left-number : (i j : ℕ) → j ≤ 3 → subℕ (i + 3 - j) 2 ≡ subℕ (i + 1) j
 left-number i j h =
     ⊎-elim
     (λ (low : i + 1 < j). let p : i + 3 - j < 2 = omega arith in rw (lt-ltb (i + 3 - j) 2 p, lt-ltb (i + 1) j low) (ap negsuc (omega arith)))
     (λ (on : j ≤ i + 1). let p : 2 ≤ i + 3 - j = omega arith in rw (le-ltb (i + 3 - j) 2 p, le-ltb (i + 1) j on) (ap pos (omega arith)))
     (lt-or-ge (i + 1) j)
 
-pub right-number : (i j : ℕ) → subℕ (i + 2 + j) 2 ≡ pos (i + j)
+right-number : (i j : ℕ) → subℕ (i + 2 + j) 2 ≡ pos (i + j)
 right-number i j = rw (le-ltb (i + 2 + j) 2 (omega arith)) (ap pos (omega arith))
 
+-- by their numbers in the code
+pub knot-left : (i j p : ℕ) → j ≤ 3 → p + j ≡ i + 3 → subℕ p 2 ≡ subℕ (i + 1) j
+knot-left i j p h e = let q : p ≡ i + 3 - j = omega arith in rw q (left-number i j h)
+
+pub knot-right : (i j p : ℕ) → p ≡ i + 2 + j → subℕ p 2 ≡ pos (i + j)
+knot-right i j p e = rw e (right-number i j)
+
 -- the weights are made of left and right at 1, 2 and 3
-pub from-six : (f : Format) (left right : ℕ → Float) {l1 l2 l3 r1 r2 r3 : Float} → l1 ≡ left 1 → l2 ≡ left 2 → l3 ≡ left 3 → r1 ≡ right 1 → r2 ≡ right 2 → r3 ≡ right 3
+from-six : (f : Format) (left right : ℕ → Float) {l1 l2 l3 r1 r2 r3 : Float} → l1 ≡ left 1 → l2 ≡ left 2 → l3 ≡ left 3 → r1 ≡ right 1 → r2 ≡ right 2 → r3 ≡ right 3
     → four (basis f (at (f0 ∷ l1 ∷ l2 ∷ l3 ∷ [])) (at (f0 ∷ r1 ∷ r2 ∷ r3 ∷ [])) 3) ≡ four (basis f left right 3)
 from-six f left right a b c d e g = rw (a, b, c, d, e, g)
+
+pub between-six : (f : Format) (ks : List Float) (span : ℕ) (x : Float) → weightsBetween f (spanKnots f ks span) x ≡ basisSpanWeights f ks span x
+unfolding weightsBetween spanKnots basisSpanWeights
+between-six f ks span x = from-six f (left f ks span x) (right f ks span x) refl refl refl refl refl refl

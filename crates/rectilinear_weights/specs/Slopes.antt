@@ -49,6 +49,11 @@ module _ (f : Format) (xs : List Float) (x : Float) where
   derivative ys zero = f0
   derivative ys (suc j) = add f (derivative ys j) (mul f (at ys j) (basisDerivative j 4))
 
+-- the same sum, of derivatives in a list, which do not depend on the values
+abbrev pub derivativeBy : Format → List Float → List Float → ℕ → Float
+derivativeBy f ds ys zero = f0
+derivativeBy f ds ys (suc j) = add f (derivativeBy f ds ys j) (mul f (at ys j) (at ds j))
+
 unfoldable pub lagrangeDerivative : Format → List Float → List Float → Float → Float
 lagrangeDerivative f xs ys x = derivative f xs x ys 4
 

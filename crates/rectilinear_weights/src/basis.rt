@@ -8,7 +8,7 @@ ghost use lib.Ieee.{binary64};
 ghost use Rattle.multibspline.specs.Numbers.{f0};
 ghost use Rattle.multibspline.specs.Thomas.{at};
 ghost use Rattle.rectilinear_weights.specs.Knot.{knot as knotOf};
-ghost use Rattle.rectilinear_weights.specs.Basis.{left as leftOf, right as rightOf, basis, four, basisSpanWeights};
+ghost use Rattle.rectilinear_weights.specs.Basis.{basis, four, spanKnots, weightsBetween, basisSpanWeights};
 
 // The knot at p - 2. Before the first knot and past the last one the end spacing goes on.
 fn knot(grid: &[f64], p: usize) -> f64
@@ -26,18 +26,18 @@ fn knot(grid: &[f64], p: usize) -> f64
     grid[n - 1] + ((i - (n - 1)) as f64) * (grid[n - 1] - grid[n - 2])
 }
 
-fn left(grid: &[f64], span: usize, x: f64, j: usize) -> f64
-    requires { ⌜ (4 ≤ length (now grid)) × (span + 1 < length (now grid)) × (j ≤ 3) ⌝ }
-    ensures { λ r. ⌜ r ≡ leftOf binary64 (now (grid .entry)) span x j ⌝ }
+// The six knots beside a span: three up to its first one, three from its last one on.
+pub fn span_knots(grid: &[f64], span: usize) -> [f64; 6]
+    requires { ⌜ (4 ≤ length (now grid)) × (span + 1 < length (now grid)) ⌝ }
+    ensures { λ r. ⌜ r ≡ spanKnots binary64 (now (grid .entry)) span ⌝ }
 {
-    x - knot(grid, span + 3 - j)
-}
-
-fn right(grid: &[f64], span: usize, x: f64, j: usize) -> f64
-    requires { ⌜ (4 ≤ length (now grid)) × (span + 1 < length (now grid)) × (j ≤ 3) ⌝ }
-    ensures { λ r. ⌜ r ≡ rightOf binary64 (now (grid .entry)) span x j ⌝ }
-{
-    knot(grid, span + 2 + j) - x
+    let a = knot(grid, span);
+    let b = knot(grid, span + 1);
+    let c = knot(grid, span + 2);
+    let d = knot(grid, span + 3);
+    let e = knot(grid, span + 4);
+    let f = knot(grid, span + 5);
+    [a, b, c, d, e, f]
 }
 
 // A2.2, degree by degree, unrolled.
@@ -66,15 +66,16 @@ fn cubic(l1: f64, l2: f64, l3: f64, r1: f64, r2: f64, r3: f64) -> [f64; 4]
     ]
 }
 
+// The weights at x, by the six knots.
+pub fn weights_between(u: [f64; 6], x: f64) -> [f64; 4]
+    ensures { λ r. ⌜ r ≡ weightsBetween binary64 u x ⌝ }
+{
+    cubic(x - u[2], x - u[1], x - u[0], u[3] - x, u[4] - x, u[5] - x)
+}
+
 pub fn basis_span_weights(grid: &[f64], span: usize, x: f64) -> [f64; 4]
     requires { ⌜ (4 ≤ length (now grid)) × (span + 1 < length (now grid)) ⌝ }
     ensures { λ r. ⌜ r ≡ basisSpanWeights binary64 (now (grid .entry)) span x ⌝ }
 {
-    let l1 = left(grid, span, x, 1);
-    let r1 = right(grid, span, x, 1);
-    let l2 = left(grid, span, x, 2);
-    let r2 = right(grid, span, x, 2);
-    let l3 = left(grid, span, x, 3);
-    let r3 = right(grid, span, x, 3);
-    cubic(l1, l2, l3, r1, r2, r3)
+    weights_between(span_knots(grid, span), x)
 }

@@ -4,8 +4,10 @@ ghost use mathlib.Core.List.{[], _∷_};
 ghost use Prim.Native.Nat.{_+_, _<_, _≤_};
 ghost use lib.ListN.{length};
 ghost use lib.Ieee.{binary64};
-ghost use Rattle.rectilinear_weights.specs.Slopes.{spanSamples, sampled as sampledOf, column as columnOf, term as termOf, basisDerivative, lagrangeDerivative, basisSpanWeightDerivatives, thirdDividedDifference, spanWeightThirdDerivatives};
-use crate::basis::basis_span_weights;
+ghost use Rattle.rectilinear_weights.specs.Basis.{four};
+ghost use Rattle.rectilinear_weights.specs.Slopes.{spanSamples, sampled as sampledOf, column as columnOf, term as termOf, basisDerivative, derivativeBy, basisSpanWeightDerivatives, thirdDividedDifference, spanWeightThirdDerivatives};
+use crate::basis::span_knots;
+use crate::basis::weights_between;
 
 fn span_samples(grid: &[f64], span: usize) -> [f64; 4]
     requires { ⌜ span + 1 < length (now grid) ⌝ }
@@ -21,11 +23,12 @@ fn sampled(grid: &[f64], span: usize, xs: [f64; 4]) -> [[f64; 4]; 4]
     requires { ⌜ (4 ≤ length (now grid)) × (span + 1 < length (now grid)) × (xs ≡ spanSamples binary64 (now grid) span) ⌝ }
     ensures { λ r. ⌜ r ≡ sampledOf binary64 (now (grid .entry)) span ⌝ }
 {
+    let u = span_knots(grid, span);
     [
-        basis_span_weights(grid, span, xs[0]),
-        basis_span_weights(grid, span, xs[1]),
-        basis_span_weights(grid, span, xs[2]),
-        basis_span_weights(grid, span, xs[3]),
+        weights_between(u, xs[0]),
+        weights_between(u, xs[1]),
+        weights_between(u, xs[2]),
+        weights_between(u, xs[3]),
     ]
 }
 
@@ -51,15 +54,23 @@ fn basis_derivative(xj: f64, xk: f64, xl: f64, xm: f64, at: f64) -> f64
     0.0 + term(xj, xk, xl, xm, at) + term(xj, xl, xk, xm, at) + term(xj, xm, xk, xl, at)
 }
 
-// The derivative, at `at`, of the cubic through four points.
-fn lagrange_derivative(xs: [f64; 4], ys: [f64; 4], at: f64) -> f64
-    ensures { λ r. ⌜ r ≡ lagrangeDerivative binary64 xs ys at ⌝ }
+// The derivatives, at `at`, of the four polynomials that are 1 at one of the places and 0 at the others. They do not depend on
+// the values, so that one set of them serves all four weights, and no bit can change by that.
+fn basis_derivatives(xs: [f64; 4], at: f64) -> [f64; 4]
+    ensures { λ r. ⌜ r ≡ four (λ j. basisDerivative binary64 xs at j 4) ⌝ }
 {
     let d0 = basis_derivative(xs[0], xs[1], xs[2], xs[3], at);
     let d1 = basis_derivative(xs[1], xs[0], xs[2], xs[3], at);
     let d2 = basis_derivative(xs[2], xs[0], xs[1], xs[3], at);
     let d3 = basis_derivative(xs[3], xs[0], xs[1], xs[2], at);
-    0.0 + ys[0] * d0 + ys[1] * d1 + ys[2] * d2 + ys[3] * d3
+    [d0, d1, d2, d3]
+}
+
+// The derivative of the cubic with the values ys.
+fn lagrange_derivative(ds: [f64; 4], ys: [f64; 4]) -> f64
+    ensures { λ r. ⌜ r ≡ derivativeBy binary64 ds ys 4 ⌝ }
+{
+    0.0 + ys[0] * ds[0] + ys[1] * ds[1] + ys[2] * ds[2] + ys[3] * ds[3]
 }
 
 pub fn basis_span_weight_derivatives(grid: &[f64], span: usize, x: f64) -> [f64; 4]
@@ -68,11 +79,12 @@ pub fn basis_span_weight_derivatives(grid: &[f64], span: usize, x: f64) -> [f64;
 {
     let xs = span_samples(grid, span);
     let values = sampled(grid, span, xs);
+    let ds = basis_derivatives(xs, x);
     [
-        lagrange_derivative(xs, column(values, 0), x),
-        lagrange_derivative(xs, column(values, 1), x),
-        lagrange_derivative(xs, column(values, 2), x),
-        lagrange_derivative(xs, column(values, 3), x),
+        lagrange_derivative(ds, column(values, 0)),
+        lagrange_derivative(ds, column(values, 1)),
+        lagrange_derivative(ds, column(values, 2)),
+        lagrange_derivative(ds, column(values, 3)),
     ]
 }
 

@@ -1,14 +1,12 @@
 -- The places of a query on the axes of a map: rows of weights and slopes, and the first of the coefficients that count. For every format. Assumes nothing.
-use mathlib.Core.Path.{_≡_, refl, sym, _∙_}
-use mathlib.Core.Bool.{true, false, cond}
+use mathlib.Core.Path.{_≡_, refl, sym, ap, _∙_}
+use mathlib.Core.Bool.{Bool, true, false, cond}
 use mathlib.Core.List.{List}
 use Prim.Native.Nat.{ℕ, zero, suc, _+_, _*_, _-_, _≤_, _<_}
 use native.Mathlib.Omega.{arith}
 use native.Mathlib.Numerals.{add-one}
-use lib.Dec.{ltb}
 use lib.ListN.{length, getD, take}
 use lib.Ieee.{Float, Format, nan}
-use borrow.Author.Tests.{lt-ltb}
 use Rattle.shape.specs.Shape.{size}
 use Rattle.shape.specs.Sizes.{strideOf}
 use Rattle.shape.specs.Usable.{Usable}
@@ -18,7 +16,9 @@ use Rattle.multibspline.specs.declared.saturation.Saturation.{Saturation}
 use Rattle.regular_weights.specs.Place.{getLoc}
 use Rattle.regular_weights.specs.declared.place.Loc.{Loc}
 use Rattle.regular_weights.specs.declared.place.Loc.the-variants.{At, Unrepresentable}
-use Rattle.evaluation.specs.Axes.{zeros, rows, parts, Reaches, valueFrom, gradientFrom}
+use Rattle.interp_math.specs.Sum.{summed, gradientPart}
+use Rattle.evaluation.specs.Axes.{strides, parts, Reaches, RowsOn}
+use Rattle.evaluation.proofs.Entries.{value-rows, gradient-rows}
 use Rattle.evaluation.proofs.Reach.{Below, below-start, below-next, below-reaches}
 use Rattle.regular_map.specs.declared.eval.First.{First}
 use Rattle.regular_map.specs.declared.eval.First.the-variants as First
@@ -26,17 +26,19 @@ use Rattle.regular_map.specs.Map.{RegularMap}
 use Rattle.regular_map.specs.Eval.{weightsAt, slopesAt, locOn, firstOn, onward, weightsOn, slopesOn, valueAt, partAt, refuses}
 
 module _ (f : Format) (m : RegularMap) (x : List Float) where
-  pub weights-used : {a : ℕ} {r : List Float} → a < m .count
-      → r ≡ weightsAt f (getD (m .starts) a nan) (getD (m .steps) a nan) (m .linear) (getD x a nan) (getLoc f (getD (m .lens) a 0) (getD (m .starts) a nan) (getD (m .steps) a nan) (getD x a nan))
-      → r ≡ cond (ltb a (m .count)) (weightsOn f m x a) zeros
-  unfolding weightsOn locOn
-  weights-used {a} h e = rw (lt-ltb a (m .count) h) e
+  -- the place that was found on axis a, of the coordinate y, and the rows there
+  module _ (a : ℕ) {y : Float} {r : Loc} (ey : y ≡ getD x a nan) (el : r ≡ getLoc f (getD (m .lens) a 0) (getD (m .starts) a nan) (getD (m .steps) a nan) y) where
+    pub loc-on : r ≡ locOn f m x a
+    unfolding locOn
+    loc-on = rw (← ey) el
 
-  pub slopes-used : {a : ℕ} {r : List Float} → a < m .count
-      → r ≡ slopesAt f (getD (m .starts) a nan) (getD (m .steps) a nan) (m .linear) (getD x a nan) (getLoc f (getD (m .lens) a 0) (getD (m .starts) a nan) (getD (m .steps) a nan) (getD x a nan))
-      → r ≡ cond (ltb a (m .count)) (slopesOn f m x a) zeros
-  unfolding slopesOn locOn
-  slopes-used {a} h e = rw (lt-ltb a (m .count) h) e
+    pub weights-on : {row : List Float} → row ≡ weightsAt f (getD (m .starts) a nan) (getD (m .steps) a nan) (m .linear) y r → row ≡ weightsOn f m x a
+    unfolding weightsOn locOn
+    weights-on e = rw (← ey, ← el) e
+
+    pub slopes-on : {row : List Float} → row ≡ slopesAt f (getD (m .starts) a nan) (getD (m .steps) a nan) (m .linear) y r → row ≡ slopesOn f m x a
+    unfolding slopesOn locOn
+    slopes-on e = rw (← ey, ← el) e
 
   -- ---- the first coefficient, axis by axis
 
@@ -56,6 +58,10 @@ module _ (f : Format) (m : RegularMap) (x : List Float) where
       let next : firstOn f m x (suc a) ≡ First.Unrepresentable = rw (here, sym same ∙ told) in
       let all : suc a + (n - suc a) ≡ n = omega arith in
       sym (rw all at (refused-later (n - suc a) (suc a) next))
+
+-- what a refused query would have
+pub never : {A : Type 0} → true ≡ false → A
+never e = absurd (let z : _≡_ {A = ℕ} 0 1 = ap (λ (b : Bool). cond b 0 1) e in let q : ⊥ = omega arith in q)
 
 no : {i : ℕ} → First.Unrepresentable ≡ First.At i → ⊥
 no e = let z : _≡_ {A = ℕ} 0 1 = cc in omega arith
@@ -98,11 +104,12 @@ module _ (f : Format) (m : RegularMap) (x : List Float) {found : First} (same : 
     pub reaches : length (m .lens) ≡ 4 → Usable (m .count) (m .lens) → length coefs ≡ size (take (m .count) (m .lens)) → Reaches (m .count) (m .lens) first (length coefs)
     reaches four u e = below-reaches (m .count) (m .lens) four u first (length coefs) (first-below f m x four u (m .count) first (omega arith) (sym same ∙ told)) e
 
-    pub value-is : {ws : List (List Float)} {v : Float} → ws ≡ rows (m .count) (weightsOn f m x) → v ≡ valueFrom f (m .count) (m .lens) coefs ws first → v ≡ valueAt f m coefs x
-    unfolding valueAt
-    value-is ew e = rw (sym same ∙ told, ← ew) e
+    -- by the strides and the rows that were worked out
+    module _ {ss : List ℕ} (es : ss ≡ strides (m .count) (m .lens)) (few : m .count ≤ 4) {ws : List (List Float)} (w : RowsOn (m .count) (weightsOn f m x) ws) where
+      pub value-is : {v : Float} → v ≡ summed f coefs ss ws (m .count) first → v ≡ valueAt f m coefs x
+      unfolding valueAt
+      value-is e = rw (sym same ∙ told) (rw es at e ∙ value-rows f coefs (strides (m .count) (m .lens)) (m .count) first few (weightsOn f m x) w)
 
-    pub gradient-is : {ws ss : List (List Float)} {ps : List Float} → ws ≡ rows (m .count) (weightsOn f m x) → ss ≡ rows (m .count) (slopesOn f m x)
-        → ps ≡ parts (m .count) (gradientFrom f (m .count) (m .lens) coefs ws ss first) → ps ≡ parts (m .count) (partAt f m coefs x)
-    unfolding partAt
-    gradient-is ew es e = rw (sym same ∙ told, ← ew, ← es) e
+      pub gradient-is : {ds : List (List Float)} {ps : List Float} → RowsOn (m .count) (slopesOn f m x) ds → ps ≡ parts (m .count) (gradientPart f coefs ss ws ds (m .count) first) → ps ≡ parts (m .count) (partAt f m coefs x)
+      unfolding partAt
+      gradient-is d e = rw (sym same ∙ told) (rw es at e ∙ gradient-rows f coefs (strides (m .count) (m .lens)) (m .count) first few (weightsOn f m x) w (slopesOn f m x) d)

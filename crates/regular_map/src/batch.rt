@@ -5,8 +5,8 @@ ghost use Prim.Native.Nat.{_*_, _≤_, _<_};
 ghost use lib.ListN.{length, take};
 ghost use lib.Ieee.{binary64};
 ghost use Rattle.shape.specs.Shape.{size};
-ghost use Rattle.shape.specs.Usable.{Usable};
 ghost use Rattle.shape.specs.Refusal.{answerNumber};
+ghost use Rattle.evaluation.specs.Axes.{Ready};
 ghost use Rattle.evaluation.specs.Batch.{badAt, valueStep, gradientStep, Entry, Entries, ValueBatch, GradientBatch};
 ghost use Rattle.regular_map.specs.Checks.{regular};
 use crate::build::check_map;
@@ -14,29 +14,40 @@ use crate::eval::gradient_at;
 use crate::eval::value_at;
 use evaluation::Valued;
 use evaluation::put_parts;
-use evaluation::query;
+use evaluation::strides_of;
 use shape::Answer;
 use shape::Refusal;
 
 // Entry i of n: its value, unless it is refused.
 fn put_value(
     count: usize,
-    dims: [usize; 4],
-    starts: [f64; 4],
-    steps: [f64; 4],
+    dims: &[usize; 4],
+    starts: &[f64; 4],
+    steps: &[f64; 4],
     linear: bool,
+    strides: &[usize; 4],
     coeffs: &[f64],
     xs: &[f64],
     n: usize,
     i: usize,
     out: &mut [f64],
 ) -> Answer
-    requires { ⌜ Usable count dims × (length (now coeffs) ≡ size (take count dims)) ⌝ }
+    requires { ⌜ Ready count (now dims) (now strides) × (length (now coeffs) ≡ size (take count (now dims))) ⌝ }
     requires { ⌜ (i < n) × (count * n ≤ length (now xs)) × (n ≤ length (now out)) ⌝ }
-    ensures { λ r. ⌜ Entry (badAt (regular binary64 (record { count = count; lens = dims; starts = starts; steps = steps; linear = linear }) (now (coeffs .entry))) (now (xs .entry)) n i) (valueStep (regular binary64 (record { count = count; lens = dims; starts = starts; steps = steps; linear = linear }) (now (coeffs .entry))) (now (xs .entry)) n i) (now (out .entry)) (answerNumber r) (now (out .exit)) ⌝ }
+    ensures { λ r. ⌜ Entry (badAt (regular binary64 (record { count = count; lens = now (dims .entry); starts = now (starts .entry); steps = now (steps .entry); linear = linear }) (now (coeffs .entry))) (now (xs .entry)) n i) (valueStep (regular binary64 (record { count = count; lens = now (dims .entry); starts = now (starts .entry); steps = now (steps .entry); linear = linear }) (now (coeffs .entry))) (now (xs .entry)) n i) (now (out .entry)) (answerNumber r) (now (out .exit)) ⌝ }
 {
-    let x = query(xs, n, i, count);
-    let valued = value_at(count, dims, starts, steps, linear, coeffs, x);
+    let valued = value_at(
+        count,
+        dims,
+        starts,
+        steps,
+        linear,
+        strides,
+        coeffs,
+        xs,
+        n,
+        i,
+    );
     match valued {
         Valued::Value(v) => {
             out[i] = v;
@@ -49,18 +60,19 @@ fn put_value(
 // The entries, up to the first that is refused.
 fn put_values(
     count: usize,
-    dims: [usize; 4],
-    starts: [f64; 4],
-    steps: [f64; 4],
+    dims: &[usize; 4],
+    starts: &[f64; 4],
+    steps: &[f64; 4],
     linear: bool,
+    strides: &[usize; 4],
     coeffs: &[f64],
     xs: &[f64],
     n: usize,
     out: &mut [f64],
 ) -> Answer
-    requires { ⌜ Usable count dims × (length (now coeffs) ≡ size (take count dims)) ⌝ }
+    requires { ⌜ Ready count (now dims) (now strides) × (length (now coeffs) ≡ size (take count (now dims))) ⌝ }
     requires { ⌜ (count * n ≤ length (now xs)) × (n ≤ length (now out)) ⌝ }
-    ensures { λ r. ⌜ Entries (badAt (regular binary64 (record { count = count; lens = dims; starts = starts; steps = steps; linear = linear }) (now (coeffs .entry))) (now (xs .entry)) n) (valueStep (regular binary64 (record { count = count; lens = dims; starts = starts; steps = steps; linear = linear }) (now (coeffs .entry))) (now (xs .entry)) n) n (now (out .entry)) (answerNumber r) (now (out .exit)) ⌝ }
+    ensures { λ r. ⌜ Entries (badAt (regular binary64 (record { count = count; lens = now (dims .entry); starts = now (starts .entry); steps = now (steps .entry); linear = linear }) (now (coeffs .entry))) (now (xs .entry)) n) (valueStep (regular binary64 (record { count = count; lens = now (dims .entry); starts = now (starts .entry); steps = now (steps .entry); linear = linear }) (now (coeffs .entry))) (now (xs .entry)) n) n (now (out .entry)) (answerNumber r) (now (out .exit)) ⌝ }
 {
     for i in 0..n {
         if let Answer::Refused(refusal) = put_value(
@@ -69,6 +81,7 @@ fn put_values(
             starts,
             steps,
             linear,
+            strides,
             coeffs,
             xs,
             n,
@@ -101,28 +114,51 @@ pub fn values(
     if xs.len() != count * n {
         return Answer::Refused(Refusal::DimensionMismatch);
     }
-    put_values(count, dims, starts, steps, linear, coeffs, xs, n, out)
+    let strides = strides_of(count, dims);
+    put_values(
+        count,
+        &dims,
+        &starts,
+        &steps,
+        linear,
+        &strides,
+        coeffs,
+        xs,
+        n,
+        out,
+    )
 }
 
 // Entry i of n: its gradient, unless it is refused.
 fn put_gradient(
     count: usize,
-    dims: [usize; 4],
-    starts: [f64; 4],
-    steps: [f64; 4],
+    dims: &[usize; 4],
+    starts: &[f64; 4],
+    steps: &[f64; 4],
     linear: bool,
+    strides: &[usize; 4],
     coeffs: &[f64],
     xs: &[f64],
     n: usize,
     i: usize,
     out: &mut [f64],
 ) -> Answer
-    requires { ⌜ Usable count dims × (length (now coeffs) ≡ size (take count dims)) ⌝ }
+    requires { ⌜ Ready count (now dims) (now strides) × (length (now coeffs) ≡ size (take count (now dims))) ⌝ }
     requires { ⌜ (i < n) × (count * n ≤ length (now xs)) × (count * n ≤ length (now out)) ⌝ }
-    ensures { λ r. ⌜ Entry (badAt (regular binary64 (record { count = count; lens = dims; starts = starts; steps = steps; linear = linear }) (now (coeffs .entry))) (now (xs .entry)) n i) (gradientStep (regular binary64 (record { count = count; lens = dims; starts = starts; steps = steps; linear = linear }) (now (coeffs .entry))) (now (xs .entry)) n i) (now (out .entry)) (answerNumber r) (now (out .exit)) ⌝ }
+    ensures { λ r. ⌜ Entry (badAt (regular binary64 (record { count = count; lens = now (dims .entry); starts = now (starts .entry); steps = now (steps .entry); linear = linear }) (now (coeffs .entry))) (now (xs .entry)) n i) (gradientStep (regular binary64 (record { count = count; lens = now (dims .entry); starts = now (starts .entry); steps = now (steps .entry); linear = linear }) (now (coeffs .entry))) (now (xs .entry)) n i) (now (out .entry)) (answerNumber r) (now (out .exit)) ⌝ }
 {
-    let x = query(xs, n, i, count);
-    let gradient = gradient_at(count, dims, starts, steps, linear, coeffs, x);
+    let gradient = gradient_at(
+        count,
+        dims,
+        starts,
+        steps,
+        linear,
+        strides,
+        coeffs,
+        xs,
+        n,
+        i,
+    );
     let parts = gradient.parts;
     let answer = gradient.answer;
     match answer {
@@ -137,18 +173,19 @@ fn put_gradient(
 // The entries, up to the first that is refused.
 fn put_gradients(
     count: usize,
-    dims: [usize; 4],
-    starts: [f64; 4],
-    steps: [f64; 4],
+    dims: &[usize; 4],
+    starts: &[f64; 4],
+    steps: &[f64; 4],
     linear: bool,
+    strides: &[usize; 4],
     coeffs: &[f64],
     xs: &[f64],
     n: usize,
     out: &mut [f64],
 ) -> Answer
-    requires { ⌜ Usable count dims × (length (now coeffs) ≡ size (take count dims)) ⌝ }
+    requires { ⌜ Ready count (now dims) (now strides) × (length (now coeffs) ≡ size (take count (now dims))) ⌝ }
     requires { ⌜ (count * n ≤ length (now xs)) × (count * n ≤ length (now out)) ⌝ }
-    ensures { λ r. ⌜ Entries (badAt (regular binary64 (record { count = count; lens = dims; starts = starts; steps = steps; linear = linear }) (now (coeffs .entry))) (now (xs .entry)) n) (gradientStep (regular binary64 (record { count = count; lens = dims; starts = starts; steps = steps; linear = linear }) (now (coeffs .entry))) (now (xs .entry)) n) n (now (out .entry)) (answerNumber r) (now (out .exit)) ⌝ }
+    ensures { λ r. ⌜ Entries (badAt (regular binary64 (record { count = count; lens = now (dims .entry); starts = now (starts .entry); steps = now (steps .entry); linear = linear }) (now (coeffs .entry))) (now (xs .entry)) n) (gradientStep (regular binary64 (record { count = count; lens = now (dims .entry); starts = now (starts .entry); steps = now (steps .entry); linear = linear }) (now (coeffs .entry))) (now (xs .entry)) n) n (now (out .entry)) (answerNumber r) (now (out .exit)) ⌝ }
 {
     for i in 0..n {
         if let Answer::Refused(refusal) = put_gradient(
@@ -157,6 +194,7 @@ fn put_gradients(
             starts,
             steps,
             linear,
+            strides,
             coeffs,
             xs,
             n,
@@ -192,5 +230,17 @@ pub fn gradients(
         return Answer::Refused(Refusal::DimensionMismatch);
     }
     let n = out.len() / count;
-    put_gradients(count, dims, starts, steps, linear, coeffs, xs, n, out)
+    let strides = strides_of(count, dims);
+    put_gradients(
+        count,
+        &dims,
+        &starts,
+        &steps,
+        linear,
+        &strides,
+        coeffs,
+        xs,
+        n,
+        out,
+    )
 }

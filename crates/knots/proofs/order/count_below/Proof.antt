@@ -1,6 +1,8 @@
 use Prim.Native.Nat.{_+_, _-_, _/_}
 use native.Mathlib.Omega.{arith}
-use Rattle.knots.proofs.Counts.{Between, between-start, between-above, between-below, between-done}
+use borrow.Author.Needs.{needs}
+use Rattle.knots.specs.Knots.{Between}
+use Rattle.knots.proofs.Counts.{between-start, between-above, between-below}
 use Rattle.knots.proofs.order.count_below.Statement.{statement}
 use Rattle.knots.proofs.order.count_below.Tie as tie
 
@@ -13,15 +15,12 @@ abbrev μ : tie.MeasureT-loop
 loop-again : tie.Need-loop-again Inv μ
 loop-again c =
     let h = c .before .before .before in
-    between-above (h .loop .inv) (h .before .pre) (h .loop .low + (h .loop .high - h .loop .low) / 2) (omega arith) (omega arith) (c .if1 .taken)
+    between-above (h .loop .inv) (h .before .before .pre) (h .loop .low + (h .loop .high - h .loop .low) / 2) (omega arith) (omega arith) (c .if1 .taken)
 
 loop-again-2 : tie.Need-loop-again-2 Inv μ
 loop-again-2 c =
     let h = c .before .before .before in
-    between-below (h .loop .inv) (h .before .pre) (h .loop .low + (h .loop .high - h .loop .low) / 2) (omega arith) (omega arith) (c .if1 .left)
-
-returns : tie.Need-returns Inv μ
-returns c = (between-done (c .before .loop .inv) (omega arith), omega arith)
+    between-below (h .loop .inv) (h .before .before .pre) (h .loop .low + (h .loop .high - h .loop .low) / 2) (omega arith) (omega arith) (c .if1 .left)
 
 pub count-below-spec : {M : Type 1} → statement M
 count-below-spec =
@@ -29,7 +28,8 @@ count-below-spec =
     (tie.spec
     Inv
     μ
-    (λ c. between-start (c .args .knots .now) (c .args .x))
+    (λ c. between-start (c .before .args .knots .now) (c .before .args .x))
+    (λ c. omega (arith, c .loop .inv .low-high, c .loop .inv .high-end, c .before .before .good))
     (λ c. omega arith)
     (λ c. omega arith)
     (λ c. omega arith)
@@ -39,4 +39,5 @@ count-below-spec =
     loop-again
     (λ c. omega arith)
     loop-again-2
-    returns)
+    (λ c κs. (c .before .before .before .pre, c .before .loop .inv))
+    (λ c. search needs))

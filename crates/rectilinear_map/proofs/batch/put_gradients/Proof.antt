@@ -14,11 +14,11 @@ use Rattle.rectilinear_map.proofs.batch.put_gradients.Statement.{statem
 use Rattle.rectilinear_map.proofs.batch.put_gradients.Tie as tie
 
 abbrev Inv : tie.InvT-loop
-Inv count dims low high linear grid coeffs xs n out₀ i₀ out i =
+Inv count dims low high linear strides offsets grid coeffs xs n out₀ i₀ out i =
     let s = rectilinear binary64 (record { count = count; lens = dims; low = ghosts low; high = ghosts high; linear = linear }) grid coeffs in Running (badAt s xs n) (gradientStep s xs n) n out₀ out i
 
 abbrev μ : tie.MeasureT-loop
-μ count dims low high linear grid coeffs xs n out₀ i₀ out i = n - i
+μ count dims low high linear strides offsets grid coeffs xs n out₀ i₀ out i = n - i
 
 put-gradient-requires : tie.Need-put-gradient-requires Inv μ
 put-gradient-requires c κs =
@@ -32,7 +32,7 @@ loop-again c =
     let t = p .before .before in
     let l = t .before in
     let a = l .before .before .before .before .before .args in
-    running-next _ _ _ {y = Accepted} (l .loop .inv) (t .loop-test .taken) (p .put-gradient .kept .1 .1 .1 .1 .1 .1 .1 .1 .1 .1 .0) refl
+    running-next _ _ _ {y = Accepted} (l .loop .inv) (t .loop-test .taken) (p .put-gradient .kept .1 .1 .1 .1 .1 .1 .1 .1 .1 .1 .1 .1 .0) refl
     (entry-written _ (now (a .xs)) (a .n) (l .loop .i) refl (p .put-gradient .ensures))
 
 pub put-gradients-spec : {M : Type 1} → statement M

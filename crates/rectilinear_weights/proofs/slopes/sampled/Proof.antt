@@ -1,5 +1,8 @@
+use denote.Ref.{now}
+use lib.Ieee.{binary64}
 use borrow.Author.Needs.{needs}
 use Rattle.rectilinear_weights.specs.Slopes.{sampled}
+use Rattle.rectilinear_weights.proofs.Knots.{between-six}
 use Rattle.rectilinear_weights.proofs.slopes.sampled.Statement.{statement}
 use Rattle.rectilinear_weights.proofs.slopes.sampled.Tie as tie
 
@@ -7,11 +10,15 @@ returns : tie.Need-returns
 unfolding sampled
 returns c =
     let zero = c .before .before .before in
-    rw (← zero .before .before .pre .2)
-    (rw (zero .basis-span-weights .ensures, c .before .before .basis-span-weights2 .ensures, c .before .basis-span-weights3 .ensures, c .basis-span-weights4 .ensures))
+    let k = zero .before in
+    let s = k .before .before in
+    let six = between-six binary64 (now (s .args .grid)) (s .args .span) in
+    rw (← s .pre .2)
+    (rw (zero .weights-between .ensures, c .before .before .weights-between2 .ensures, c .before .weights-between3 .ensures, c .weights-between4 .ensures)
+    (rw (k .span-knots .ensures) (rw six (rw six (rw six (rw six))))))
 
 pub sampled-spec : {M : Type 1} → statement M
 sampled-spec =
     tie.close
-    (tie.spec (λ c. search needs) (λ c κs. search needs) (λ c. search needs) (λ c κs. search needs) (λ c. search needs) (λ c κs. search needs) (λ c. search needs) (λ c κs. search needs)
+    (tie.spec (λ c κs. search needs) (λ c. search needs) (λ c κs. search needs) (λ c. search needs) (λ c κs. search needs) (λ c. search needs) (λ c κs. search needs) (λ c. search needs) (λ c κs. search needs)
     returns)

@@ -4,31 +4,31 @@ use Rattle.evaluation.proofs.Outcomes.{gradient-entry, gradient-entry-refused}
 use Rattle.regular_map.proofs.batch.put_gradient.Statement.{statement}
 use Rattle.regular_map.proofs.batch.put_gradient.Tie as tie
 
-query-requires : tie.Need-query-requires
-query-requires c κs = let s = c .before .before .before in (s .pre .0 .0 .at-most-four, s .pre .1 .0, s .pre .1 .1)
+gradient-at-requires : tie.Need-gradient-at-requires
+gradient-at-requires c κs = let s = c .before .before .before in ((s .pre .0 .0, s .pre .1 .0, s .pre .1 .1), s .pre .0 .1)
 
 put-parts-requires : tie.Need-put-parts-requires
 put-parts-requires c κs =
-    let s = c .before .before .before .before .before .before .before .before .before in
-    (s .pre .0 .0 .at-most-four, s .pre .1 .0, s .pre .1 .2)
+    let s = c .before .before .before .before .before .before .before .before in
+    (s .pre .0 .0 .shape .at-most-four, s .pre .1 .0, s .pre .1 .2)
 
 returns : tie.Need-returns
 returns c =
     let p = c .before .before in
     let t = p .before .before in
     let g = t .before .before .before in
-    let s = g .before .before .before .before .before in
+    let s = g .before .before .before .before in
     let a = s .args in
-    gradient-entry _ (now (a .xs)) (a .n) (a .i) (now (a .out)) (s .pre .0 .0 .at-most-four) (t .enum-told .given .1) (rw (g .before .query .ensures) at (g .gradient-at .ensures)) (p .put-parts .ensures)
+    gradient-entry _ (now (a .xs)) (a .n) (a .i) (now (a .out)) (s .pre .0 .0 .shape .at-most-four) (t .enum-told .given .1) (g .gradient-at .ensures) (p .put-parts .ensures)
 
 returns-2 : tie.Need-returns-2
 returns-2 c =
     let v = c .before in
     let g = v .before .before .before in
-    let a = g .before .before .before .before .before .args in
-    gradient-entry-refused _ (now (a .xs)) (a .n) (a .i) (now (a .out)) (v .answer .given .1) (rw (g .before .query .ensures) at (g .gradient-at .ensures))
+    let a = g .before .before .before .before .args in
+    gradient-entry-refused _ (now (a .xs)) (a .n) (a .i) (now (a .out)) (v .answer .given .1) (g .gradient-at .ensures)
 
 pub put-gradient-spec : {M : Type 1} → statement M
 put-gradient-spec =
     tie.close
-    (tie.spec query-requires (λ c κs. search needs) (λ c. search needs) put-parts-requires (λ c. search needs) (λ c. search needs) returns returns-2)
+    (tie.spec gradient-at-requires (λ c. search needs) put-parts-requires (λ c. search needs) (λ c. search needs) returns returns-2)

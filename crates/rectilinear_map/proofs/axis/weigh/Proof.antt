@@ -1,0 +1,17 @@
+use mathlib.Core.Path.{ap}
+use denote.Ref.{now}
+use borrow.Author.Needs.{needs}
+use Rattle.knots.proofs.Places.{get-loc-within}
+use Rattle.rectilinear_map.proofs.axis.weigh.Statement.{statement}
+use Rattle.rectilinear_map.proofs.axis.weigh.Tie as tie
+
+interp-weights-requires : tie.Need-interp-weights-requires
+interp-weights-requires c κs =
+    let s = c .before .before in
+    (s .pre .0, rw (c .get-loc .ensures) (get-loc-within (now (s .args .knots)) (s .args .x) (s .pre .0) .span-room))
+
+returns : tie.Need-returns
+returns c = let e = c .before .get-loc .ensures in (rw e, rw e at (c .interp-weights .ensures))
+
+pub weigh-spec : {M : Type 1} → statement M
+weigh-spec = tie.close (tie.spec (λ c κs. search needs) interp-weights-requires returns)
