@@ -5,6 +5,7 @@ use mathlib.Core.List.{List, [], _∷_, _++_}
 use Prim.Native.Nat.{ℕ}
 use lib.ListN.{replicate}
 use lib.Ieee.{lt, add, sub, mul, div, ofInt, ofBits, toBits}
+use Rattle.shape.specs.Below.{anyBelow}
 use Rattle.shape.specs.Shape.{product, firstCell, lineOf}
 use Rattle.shape.specs.Fit.{solveLine, solveLines, fitAfter}
 use Rattle.shape.specs.Checks.{firstRefusal, anyShort, shapeAccepted}
@@ -22,7 +23,7 @@ use Rattle.float_text.specs.Bits.{bitsIn, bitsText, floatIn, floatText}
 use Rattle.map_fields.specs.Fields.{lines, fields, floatsIn, rowIn, rest}
 use Rattle.map_fields.specs.Head.{decimalIn, areDecimals, decimalsOf, isByte, headIn}
 use Rattle.map_print.specs.Print.{floatsText, widthOf, countText, mapLine, answerLine, totalLine}
-use Rattle.map_spline.specs.Outside.{anyAxis, regularAxisOutside}
+use Rattle.map_spline.specs.Outside.{regularAxisOutside}
 use Rattle.map_spline.specs.Surface.{rowLength, mapNumber, surface}
 use Rattle.map_work.specs.Program as Program
 use Rattle.map_work.specs.Program.{program}
@@ -59,5 +60,5 @@ output =
     ++ row (byte 84 ∷ byte 49 ∷ byte 48 ∷ []))
 
 pub example : program false input ≡ output
-unfolding input output row byte zero one program Program.first Program.shaped Program.shapeNumber Program.second Program.third Program.fitted Program.queries lines fields floatsIn rowIn rest decimalIn areDecimals decimalsOf isByte headIn digitOf letterOf numberFrom digitsOf bitsIn bitsText floatIn floatText floatsText widthOf countText mapLine answerLine totalLine anyAxis regularAxisOutside rowLength mapNumber surface made anyStepBad inUse query oneAnswer getLoc locOf pastOrigin lt valueAt partAt refuses firstOn locOn weightsOn slopesOn gradientPart summed dot4 mulAdd interpWeights interpWeightDerivatives spanDerivatives scaled cubicBsplineWeights cubicBsplineWeightDerivatives strideOf shapeAccepted firstRefusal anyShort product firstCell lineOf solveLine solveLines fitAfter add sub mul div ofInt ofBits toBits
+unfolding input output row byte zero one program Program.first Program.shaped Program.shapeNumber Program.second Program.third Program.fitted Program.queries lines fields floatsIn rowIn rest decimalIn areDecimals decimalsOf isByte headIn digitOf letterOf numberFrom digitsOf bitsIn bitsText floatIn floatText floatsText widthOf countText mapLine answerLine totalLine anyBelow regularAxisOutside rowLength mapNumber surface made anyStepBad inUse query oneAnswer getLoc locOf pastOrigin lt valueAt partAt refuses firstOn locOn weightsOn slopesOn gradientPart summed dot4 mulAdd interpWeights interpWeightDerivatives spanDerivatives scaled cubicBsplineWeights cubicBsplineWeightDerivatives strideOf shapeAccepted firstRefusal anyShort product firstCell lineOf solveLine solveLines fitAfter add sub mul div ofInt ofBits toBits
 example = refl
