@@ -91,7 +91,8 @@ fn check_begin(
     check_lent(count, dims, vals, scratch)
 }
 
-fn begin(
+// Begin, from the length of scratch, of which it looks at no more: for a caller that has no scratch at hand yet.
+pub fn begin_rectilinear_by_length(
     count: usize,
     dims: [usize; 4],
     grid: &[f64],
@@ -134,7 +135,7 @@ pub fn begin_rectilinear(
 {
     let count = shape.count;
     let dims = shape.dims;
-    begin(count, dims, grid, vals, coeffs, ledger, scratch.len())
+    begin_rectilinear_by_length(count, dims, grid, vals, coeffs, ledger, scratch.len())
 }
 
 // ---- the line call
