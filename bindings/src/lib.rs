@@ -1,4 +1,6 @@
 // The library's calls over slices. Every argument may be wrong in any way that slices can be: the library refuses it.
+// The header's functions are declared once for all Rust of the repository, in the example.
+#[path = "../../examples/rust/src/ffi.rs"]
 mod c;
 mod evaluation;
 mod fitting;

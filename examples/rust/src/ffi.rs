@@ -1,6 +1,6 @@
 //! The functions of corvezan.h, as they are declared there.
 
-extern "C" {
+unsafe extern "C" {
     pub fn corvezan_check_shape(dims: *const usize, axes: usize) -> u32;
     pub fn corvezan_points(dims: *const usize, axes: usize) -> usize;
     pub fn corvezan_scratch_len(dims: *const usize, axes: usize) -> usize;
@@ -12,7 +12,7 @@ extern "C" {
 /// Declares the calls of evaluation, which are of one form on both grids.
 macro_rules! evaluation_calls {
     ($check:ident, $value:ident, $gradient:ident, $values:ident, $gradients:ident) => {
-        extern "C" {
+        unsafe extern "C" {
             pub fn $check(dims: *const usize, axes: usize, grid: *const f64, grid_len: usize, coeffs_len: usize)
                 -> u32;
             pub fn $value(
@@ -50,7 +50,7 @@ evaluation_calls!(
     corvezan_rectilinear_gradients
 );
 
-extern "C" {
+unsafe extern "C" {
     pub fn corvezan_regular_fit(
         dims: *const usize, axes: usize, vals: *const f64, vals_len: usize, coeffs: *mut f64, coeffs_len: usize,
         scratch: *mut f64, scratch_len: usize,
