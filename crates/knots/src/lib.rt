@@ -12,3 +12,4 @@ pub use order::count_below;
 pub use order::rising;
 pub use place::Loc;
 pub use place::get_loc;
+pub use place::loc_of;

@@ -16,7 +16,7 @@ pub struct Loc {
 }
 
 // The place by the count c of the knots below, of n.
-fn loc_of(n: usize, c: usize) -> Loc
+pub fn loc_of(n: usize, c: usize) -> Loc
     requires { ⌜ 4 ≤ n ⌝ }
     ensures { λ r. ⌜ r ≡ locOf n c ⌝ }
 {
