@@ -9,25 +9,18 @@ ghost use Rattle.evaluation.specs.Batch.{gradientStep, ValueBatch, GradientBatc
 ghost use Rattle.rectilinear.specs.Fit.{RectilinearFitted};
 ghost use Rattle.rectilinear_map.specs.Map.{mapOf};
 ghost use Rattle.rectilinear_map.specs.Eval.{mapAnswer, gridAnswer};
-ghost use Rattle.capi.specs.Inputs.{lensOf, isOn};
-ghost use Rattle.capi.specs.Outputs.{Wrote, Handed};
-ghost use Rattle.capi.specs.Splines.{withSlopes};
-ghost use Rattle.capi.specs.Rectilinear.{rectilinearMap, rectilinearSpline};
-use crate::inputs::shape_of;
-use crate::outputs::else_mismatch;
-use crate::outputs::number;
-use crate::outputs::put_gradient;
-use crate::outputs::put_value;
+ghost use Rattle.capi_parts.specs.Inputs.{lensOf, isOn};
+ghost use Rattle.capi_parts.specs.Outputs.{Wrote, Handed};
+ghost use Rattle.capi_parts.specs.Splines.{withSlopes};
+ghost use Rattle.capi_parts.specs.Rectilinear.{rectilinearMap, rectilinearSpline};
+use capi_parts::else_mismatch;
+use capi_parts::number;
+use capi_parts::put_gradient;
+use capi_parts::put_value;
+use capi_parts::rectilinear_map_of;
+use capi_parts::shape_of;
 use rectilinear_map::Built;
 use rectilinear_map::MultiBsplineRectilinear;
-
-// The map, once the shape and the length of the grid are found right. Its knots are looked at by the call that asks it.
-fn map_of(dims: &[usize], grid: &[f64], linear: u32) -> Built
-    ensures { λ r. ⌜ Handed (gridAnswer (length (now (dims .entry))) (lensOf (now (dims .entry))) (now (grid .entry))) (rectilinearMap binary64 (now (dims .entry)) (now (grid .entry)) (isOn linear)) (answerNumber (r .answer)) (mapOf (r .map)) ⌝ }
-{
-    let shape = shape_of(dims);
-    MultiBsplineRectilinear::of_grid(shape, grid, linear != 0)
-}
 
 #[no_mangle]
 pub extern "C" fn corvezan_rectilinear_fit(
@@ -63,7 +56,7 @@ pub extern "C" fn corvezan_rectilinear_value(
 ) -> u32
     ensures { λ n. ⌜ Wrote (oneAnswer (rectilinearSpline binary64 (now (dims .entry)) (now (grid .entry)) (isOn linear) (now (coeffs .entry))) (now (x .entry))) (rectilinearSpline binary64 (now (dims .entry)) (now (grid .entry)) (isOn linear) (now (coeffs .entry)) .value (query (length (now (dims .entry))) (now (x .entry)) 1 0)) (now (value .entry)) n (now (value .exit)) ⌝ }
 {
-    let built = map_of(dims, grid, linear);
+    let built = rectilinear_map_of(dims, grid, linear);
     let answer = built.answer;
     let map = built.map;
     let refused = number(answer);
@@ -87,7 +80,7 @@ pub extern "C" fn corvezan_rectilinear_gradient(
     if slopes.len() != dims.len() {
         return else_mismatch(corvezan_rectilinear_check(dims, grid, coeffs.len()));
     }
-    let built = map_of(dims, grid, linear);
+    let built = rectilinear_map_of(dims, grid, linear);
     let answer = built.answer;
     let map = built.map;
     let refused = number(answer);
@@ -108,7 +101,7 @@ pub extern "C" fn corvezan_rectilinear_values(
 ) -> u32
     ensures { λ n. ⌜ ValueBatch (rectilinearSpline binary64 (now (dims .entry)) (now (grid .entry)) (isOn linear) (now (coeffs .entry))) (now (x .entry)) (now (values .entry)) n (now (values .exit)) ⌝ }
 {
-    let built = map_of(dims, grid, linear);
+    let built = rectilinear_map_of(dims, grid, linear);
     let answer = built.answer;
     let map = built.map;
     let refused = number(answer);
@@ -129,7 +122,7 @@ pub extern "C" fn corvezan_rectilinear_gradients(
 ) -> u32
     ensures { λ n. ⌜ GradientBatch (rectilinearSpline binary64 (now (dims .entry)) (now (grid .entry)) (isOn linear) (now (coeffs .entry))) (now (x .entry)) (now (slopes .entry)) n (now (slopes .exit)) ⌝ }
 {
-    let built = map_of(dims, grid, linear);
+    let built = rectilinear_map_of(dims, grid, linear);
     let answer = built.answer;
     let map = built.map;
     let refused = number(answer);

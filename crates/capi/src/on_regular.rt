@@ -9,49 +9,21 @@ ghost use Rattle.evaluation.specs.Spline.{oneAnswer};
 ghost use Rattle.evaluation.specs.Batch.{gradientStep, ValueBatch, GradientBatch};
 ghost use Rattle.regular.specs.Fit.{RegularFitted};
 ghost use Rattle.regular_map.specs.Map.{mapOf};
-ghost use Rattle.capi.specs.Inputs.{lensOf, isOn};
-ghost use Rattle.capi.specs.Outputs.{Wrote};
-ghost use Rattle.capi.specs.Splines.{withSlopes};
-ghost use Rattle.capi.specs.Regular.{readyChecks, regularChecks, regularMap, regularSpline, FromValues};
-use crate::inputs::four_from;
-use crate::inputs::shape_of;
-use crate::outputs::else_mismatch;
-use crate::outputs::number;
-use crate::outputs::put_gradient;
-use crate::outputs::put_value;
+ghost use Rattle.capi_parts.specs.Inputs.{lensOf, isOn};
+ghost use Rattle.capi_parts.specs.Outputs.{Wrote};
+ghost use Rattle.capi_parts.specs.Splines.{withSlopes};
+ghost use Rattle.capi_parts.specs.Regular.{readyChecks, regularChecks, regularMap, regularSpline, FromValues};
+use capi_parts::check_grid;
+use capi_parts::else_mismatch;
+use capi_parts::four_from;
+use capi_parts::number;
+use capi_parts::put_gradient;
+use capi_parts::put_value;
+use capi_parts::regular_map_of;
+use capi_parts::shape_of;
 use regular_map::MultiBsplineRegular;
 use shape::Answer;
 use shape::Refusal;
-
-// The shape, then the length of the grid.
-fn check_grid(dims: &[usize], grid: &[f64]) -> Answer
-    ensures { λ r. ⌜ answerNumber r ≡ firstRefusal (readyChecks (now (dims .entry)) (now (grid .entry))) ⌝ }
-{
-    let shape = shape_of(dims);
-    if let Answer::Refused(refusal) = shape.check() {
-        return Answer::Refused(refusal);
-    }
-    if grid.len() != 2 * dims.len() {
-        return Answer::Refused(Refusal::DimensionMismatch);
-    }
-    Answer::Accepted
-}
-
-fn map_of(dims: &[usize], grid: &[f64], linear: u32) -> MultiBsplineRegular
-    ensures { λ r. ⌜ mapOf r ≡ regularMap (now (dims .entry)) (now (grid .entry)) (isOn linear) ⌝ }
-{
-    let shape = shape_of(dims);
-    let lens = shape.dims;
-    let starts = four_from(grid, 0);
-    let steps = four_from(grid, dims.len());
-    MultiBsplineRegular {
-        count: dims.len(),
-        dims: lens,
-        starts: starts,
-        steps: steps,
-        linearize_extrapolation: linear != 0,
-    }
-}
 
 #[no_mangle]
 pub extern "C" fn corvezan_regular_fit(
@@ -74,7 +46,7 @@ pub extern "C" fn corvezan_regular_check(dims: &[usize], grid: &[f64], coeffs_le
     if refused != 0 {
         return refused;
     }
-    let map = map_of(dims, grid, 0);
+    let map = regular_map_of(dims, grid, 0);
     let lens = map.dims;
     let steps = map.steps;
     number(regular_map::check_map(map.count, lens, steps, coeffs_len))
@@ -125,7 +97,7 @@ pub extern "C" fn corvezan_regular_value(
     if refused != 0 {
         return refused;
     }
-    let map = map_of(dims, grid, linear);
+    let map = regular_map_of(dims, grid, linear);
     put_value(map.interp_one(coeffs, x), value)
 }
 
@@ -147,7 +119,7 @@ pub extern "C" fn corvezan_regular_gradient(
     if refused != 0 {
         return refused;
     }
-    let map = map_of(dims, grid, linear);
+    let map = regular_map_of(dims, grid, linear);
     put_gradient(map.interp_one_grad(coeffs, x), slopes)
 }
 
@@ -166,7 +138,7 @@ pub extern "C" fn corvezan_regular_values(
     if refused != 0 {
         return refused;
     }
-    let map = map_of(dims, grid, linear);
+    let map = regular_map_of(dims, grid, linear);
     number(map.interp(coeffs, x, values))
 }
 
@@ -185,6 +157,6 @@ pub extern "C" fn corvezan_regular_gradients(
     if refused != 0 {
         return refused;
     }
-    let map = map_of(dims, grid, linear);
+    let map = regular_map_of(dims, grid, linear);
     number(map.interp_grad(coeffs, x, slopes))
 }

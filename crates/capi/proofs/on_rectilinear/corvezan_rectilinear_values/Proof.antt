@@ -2,15 +2,15 @@ use mathlib.Core.Path.{sym, _∙_}
 use denote.Ref.{now}
 use lib.ListN.{length}
 use lib.Ieee.{binary64}
-use Rattle.capi.specs.Inputs.{isOn}
-use Rattle.capi.specs.Rectilinear.{rectilinearSpline}
-use Rattle.capi.proofs.Guards.{values-not}
-use Rattle.capi.proofs.Evaluated.{rectilinear-refused, rectilinear-values}
+use Rattle.capi_parts.specs.Inputs.{isOn}
+use Rattle.capi_parts.specs.Rectilinear.{rectilinearSpline}
+use Rattle.capi_parts.proofs.Guards.{values-not}
+use Rattle.capi_parts.proofs.Evaluated.{rectilinear-refused, rectilinear-values}
 use borrow.Author.Needs.{needs}
 use Rattle.capi.proofs.on_rectilinear.corvezan_rectilinear_values.Statement.{statement}
 use Rattle.capi.proofs.on_rectilinear.corvezan_rectilinear_values.Tie as tie
 
-map-of-requires : tie.Need-map-of-requires
+map-of-requires : tie.Need-rectilinear-map-of-requires
 map-of-requires c κs = search needs
 
 number-requires : tie.Need-number-requires
@@ -20,7 +20,7 @@ returns : tie.Need-returns
 returns c =
     let a = (c .before .before .before .before .before .before .before .before .before) .args in
     let m = (c .before .before .before) in
-    let told = (c .before) .number .ensures ∙ m .map-of .ensures .answers in
+    let told = (c .before) .number .ensures ∙ m .rectilinear-map-of .ensures .answers in
     values-not (c .if1 .taken) (rectilinearSpline binary64 (now (a .dims)) (now (a .grid)) (isOn (a .linear)) (now (a .coeffs))) (rectilinear-refused (now (a .dims)) (now (a .grid)) told (length (now (a .coeffs))) (c .if1 .taken)) (now (a .x)) (now (a .values))
 
 interp-requires : tie.Need-interp-requires
@@ -36,8 +36,8 @@ returns-2 : tie.Need-returns-2
 returns-2 c =
     let a = (c .before .before .before .before .before .before .before .before .before .before .before .before .before .before) .args in
     let m = (c .before .before .before .before .before .before .before .before) in
-    let told = (c .before .before .before .before .before .before) .number .ensures ∙ m .map-of .ensures .answers in
-    rw (c .number2 .ensures) (rectilinear-values binary64 (now (a .dims)) (now (a .grid)) (isOn (a .linear)) (now (a .coeffs)) _ (m .map-of .ensures .map (sym ((c .before .before .before .before .before .before) .number .ensures) ∙ (c .before .before .before .before .before) .if1 .left)) (now (a .x)) (now (a .values)) ((c .before .before .before) .interp .ensures))
+    let told = (c .before .before .before .before .before .before) .number .ensures ∙ m .rectilinear-map-of .ensures .answers in
+    rw (c .number2 .ensures) (rectilinear-values binary64 (now (a .dims)) (now (a .grid)) (isOn (a .linear)) (now (a .coeffs)) _ (m .rectilinear-map-of .ensures .map (sym ((c .before .before .before .before .before .before) .number .ensures) ∙ (c .before .before .before .before .before) .if1 .left)) (now (a .x)) (now (a .values)) ((c .before .before .before) .interp .ensures))
 
 pub corvezan-rectilinear-values-spec : {M : Type 1} → statement M
 corvezan-rectilinear-values-spec =

@@ -1,8 +1,8 @@
 use mathlib.Core.Path.{_∙_}
 use denote.Ref.{now}
-use Rattle.capi.specs.Regular.{readyChecks}
-use Rattle.capi.proofs.Guards.{refused-some}
-use Rattle.capi.proofs.Evaluated.{regular-checked}
+use Rattle.capi_parts.specs.Regular.{readyChecks}
+use Rattle.capi_parts.proofs.Guards.{refused-some}
+use Rattle.capi_parts.proofs.Evaluated.{regular-checked}
 use borrow.Author.Needs.{needs}
 use Rattle.capi.proofs.on_regular.corvezan_regular_check.Statement.{statement}
 use Rattle.capi.proofs.on_regular.corvezan_regular_check.Tie as tie
@@ -19,7 +19,7 @@ returns c =
     let told = (c .before) .number .ensures ∙ (c .before .before) .check-grid .ensures in
     refused-some (readyChecks (now (a .dims)) (now (a .grid))) _ _ told (c .if1 .taken)
 
-map-of-requires : tie.Need-map-of-requires
+map-of-requires : tie.Need-regular-map-of-requires
 map-of-requires c κs = search needs
 
 check-map-requires : tie.Need-check-map-requires
@@ -32,7 +32,7 @@ returns-2 : tie.Need-returns-2
 returns-2 c =
     let a = (c .before .before .before .before .before .before .before .before .before .before) .args in
     let told = (c .before .before .before .before .before .before) .number .ensures ∙ (c .before .before .before .before .before .before .before) .check-grid .ensures in
-    c .number2 .ensures ∙ regular-checked (now (a .dims)) (now (a .grid)) told ((c .before .before .before .before .before) .if1 .left) _ ((c .before .before .before .before) .map-of .ensures) (a .coeffs-len) ((c .before) .check-map .ensures)
+    c .number2 .ensures ∙ regular-checked (now (a .dims)) (now (a .grid)) told ((c .before .before .before .before .before) .if1 .left) _ ((c .before .before .before .before) .regular-map-of .ensures) (a .coeffs-len) ((c .before) .check-map .ensures)
 
 pub corvezan-regular-check-spec : {M : Type 1} → statement M
 corvezan-regular-check-spec =

@@ -1,9 +1,9 @@
 use mathlib.Core.Path.{sym, _∙_}
 use denote.Ref.{now}
 use lib.ListN.{length}
-use Rattle.capi.specs.Regular.{readyChecks, fitChecks}
-use Rattle.capi.proofs.Guards.{refused-some, fitted-nothing}
-use Rattle.capi.proofs.Evaluated.{fit-dropped, values-dropped}
+use Rattle.capi_parts.specs.Regular.{readyChecks, fitChecks}
+use Rattle.capi_parts.proofs.Guards.{refused-some, fitted-nothing}
+use Rattle.capi_parts.proofs.Evaluated.{fit-dropped, values-dropped}
 use borrow.Author.Needs.{needs}
 use Rattle.capi.proofs.on_regular.corvezan_regular_from_values.Statement.{statement}
 use Rattle.capi.proofs.on_regular.corvezan_regular_from_values.Tie as tie

@@ -1,11 +1,11 @@
 use mathlib.Core.Path.{_∙_}
 use denote.Ref.{now}
 use lib.Ieee.{binary64}
-use Rattle.capi.specs.Inputs.{isOn}
-use Rattle.capi.specs.Regular.{readyChecks, regularSpline}
+use Rattle.capi_parts.specs.Inputs.{isOn}
+use Rattle.capi_parts.specs.Regular.{readyChecks, regularSpline}
 use native.Mathlib.Omega.{arith}
-use Rattle.capi.proofs.Guards.{refused-some, wrote-nothing, slopes-not, slopes-wrote}
-use Rattle.capi.proofs.Evaluated.{at-most-four, regular-gradient}
+use Rattle.capi_parts.proofs.Guards.{refused-some, wrote-nothing, slopes-not, slopes-wrote}
+use Rattle.capi_parts.proofs.Evaluated.{at-most-four, regular-gradient}
 use borrow.Author.Needs.{needs}
 use Rattle.capi.proofs.on_regular.corvezan_regular_gradient.Statement.{statement}
 use Rattle.capi.proofs.on_regular.corvezan_regular_gradient.Tie as tie
@@ -33,7 +33,7 @@ returns-2 c =
     let told = (c .before) .number .ensures ∙ (c .before .before) .check-grid .ensures in
     wrote-nothing (c .if2 .taken) (slopes-not (c .if2 .taken) (regularSpline binary64 (now (a .dims)) (now (a .grid)) (isOn (a .linear)) (now (a .coeffs))) (refused-some (readyChecks (now (a .dims)) (now (a .grid))) _ _ told (c .if2 .taken)) _ (now (a .x)))
 
-map-of-requires : tie.Need-map-of-requires
+map-of-requires : tie.Need-regular-map-of-requires
 map-of-requires c κs = search needs
 
 interp-one-grad-requires : tie.Need-interp-one-grad-requires
@@ -52,7 +52,7 @@ returns-3 : tie.Need-returns-3
 returns-3 c =
     let a = (c .before .before .before .before .before .before .before .before .before .before .before .before .before .before .before) .args in
     let told = (c .before .before .before .before .before .before .before) .number .ensures ∙ (c .before .before .before .before .before .before .before .before) .check-grid .ensures in
-    regular-gradient (now (a .dims)) (now (a .grid)) told ((c .before .before .before .before .before .before) .if2 .left) binary64 (isOn (a .linear)) (now (a .coeffs)) _ ((c .before .before .before .before .before) .map-of .ensures) (now (a .x)) (now (a .slopes)) ((c .before .before .before .before .before .before .before .before .before) .if1 .left) ((c .before .before .before .before) .interp-one-grad .ensures) ((c .before .before) .put-gradient .ensures)
+    regular-gradient (now (a .dims)) (now (a .grid)) told ((c .before .before .before .before .before .before) .if2 .left) binary64 (isOn (a .linear)) (now (a .coeffs)) _ ((c .before .before .before .before .before) .regular-map-of .ensures) (now (a .x)) (now (a .slopes)) ((c .before .before .before .before .before .before .before .before .before) .if1 .left) ((c .before .before .before .before) .interp-one-grad .ensures) ((c .before .before) .put-gradient .ensures)
 
 pub corvezan-regular-gradient-spec : {M : Type 1} → statement M
 corvezan-regular-gradient-spec =

@@ -1,10 +1,10 @@
 use mathlib.Core.Path.{_∙_}
 use denote.Ref.{now}
 use lib.Ieee.{binary64}
-use Rattle.capi.specs.Inputs.{isOn}
-use Rattle.capi.specs.Regular.{readyChecks, regularSpline}
-use Rattle.capi.proofs.Guards.{refused-some, wrote-nothing, one-not}
-use Rattle.capi.proofs.Evaluated.{regular-value}
+use Rattle.capi_parts.specs.Inputs.{isOn}
+use Rattle.capi_parts.specs.Regular.{readyChecks, regularSpline}
+use Rattle.capi_parts.proofs.Guards.{refused-some, wrote-nothing, one-not}
+use Rattle.capi_parts.proofs.Evaluated.{regular-value}
 use borrow.Author.Needs.{needs}
 use Rattle.capi.proofs.on_regular.corvezan_regular_value.Statement.{statement}
 use Rattle.capi.proofs.on_regular.corvezan_regular_value.Tie as tie
@@ -21,7 +21,7 @@ returns c =
     let told = (c .before) .number .ensures ∙ (c .before .before) .check-grid .ensures in
     wrote-nothing (c .if1 .taken) (one-not (c .if1 .taken) (regularSpline binary64 (now (a .dims)) (now (a .grid)) (isOn (a .linear)) (now (a .coeffs))) (refused-some (readyChecks (now (a .dims)) (now (a .grid))) _ _ told (c .if1 .taken)) (now (a .x)))
 
-map-of-requires : tie.Need-map-of-requires
+map-of-requires : tie.Need-regular-map-of-requires
 map-of-requires c κs = search needs
 
 interp-one-requires : tie.Need-interp-one-requires
@@ -34,7 +34,7 @@ returns-2 : tie.Need-returns-2
 returns-2 c =
     let a = (c .before .before .before .before .before .before .before .before .before .before .before) .args in
     let told = (c .before .before .before .before .before) .number .ensures ∙ (c .before .before .before .before .before .before) .check-grid .ensures in
-    regular-value (now (a .dims)) (now (a .grid)) told ((c .before .before .before .before) .if1 .left) binary64 (isOn (a .linear)) (now (a .coeffs)) _ ((c .before .before .before) .map-of .ensures) (now (a .x)) ((c .before .before) .interp-one .ensures) (c .put-value .ensures)
+    regular-value (now (a .dims)) (now (a .grid)) told ((c .before .before .before .before) .if1 .left) binary64 (isOn (a .linear)) (now (a .coeffs)) _ ((c .before .before .before) .regular-map-of .ensures) (now (a .x)) ((c .before .before) .interp-one .ensures) (c .put-value .ensures)
 
 pub corvezan-regular-value-spec : {M : Type 1} → statement M
 corvezan-regular-value-spec =

@@ -1,10 +1,10 @@
 use mathlib.Core.Path.{_∙_}
 use denote.Ref.{now}
 use lib.Ieee.{binary64}
-use Rattle.capi.specs.Inputs.{isOn}
-use Rattle.capi.specs.Regular.{readyChecks, regularSpline}
-use Rattle.capi.proofs.Guards.{refused-some, values-not}
-use Rattle.capi.proofs.Evaluated.{regular-values}
+use Rattle.capi_parts.specs.Inputs.{isOn}
+use Rattle.capi_parts.specs.Regular.{readyChecks, regularSpline}
+use Rattle.capi_parts.proofs.Guards.{refused-some, values-not}
+use Rattle.capi_parts.proofs.Evaluated.{regular-values}
 use borrow.Author.Needs.{needs}
 use Rattle.capi.proofs.on_regular.corvezan_regular_values.Statement.{statement}
 use Rattle.capi.proofs.on_regular.corvezan_regular_values.Tie as tie
@@ -21,7 +21,7 @@ returns c =
     let told = (c .before) .number .ensures ∙ (c .before .before) .check-grid .ensures in
     values-not (c .if1 .taken) (regularSpline binary64 (now (a .dims)) (now (a .grid)) (isOn (a .linear)) (now (a .coeffs))) (refused-some (readyChecks (now (a .dims)) (now (a .grid))) _ _ told (c .if1 .taken)) (now (a .x)) (now (a .values))
 
-map-of-requires : tie.Need-map-of-requires
+map-of-requires : tie.Need-regular-map-of-requires
 map-of-requires c κs = search needs
 
 interp-requires : tie.Need-interp-requires
@@ -37,7 +37,7 @@ returns-2 : tie.Need-returns-2
 returns-2 c =
     let a = (c .before .before .before .before .before .before .before .before .before .before .before .before .before .before) .args in
     let told = (c .before .before .before .before .before .before .before) .number .ensures ∙ (c .before .before .before .before .before .before .before .before) .check-grid .ensures in
-    rw (c .number2 .ensures) (regular-values (now (a .dims)) (now (a .grid)) told ((c .before .before .before .before .before .before) .if1 .left) binary64 (isOn (a .linear)) (now (a .coeffs)) _ ((c .before .before .before .before .before) .map-of .ensures) (now (a .x)) (now (a .values)) ((c .before .before .before) .interp .ensures))
+    rw (c .number2 .ensures) (regular-values (now (a .dims)) (now (a .grid)) told ((c .before .before .before .before .before .before) .if1 .left) binary64 (isOn (a .linear)) (now (a .coeffs)) _ ((c .before .before .before .before .before) .regular-map-of .ensures) (now (a .x)) (now (a .values)) ((c .before .before .before) .interp .ensures))
 
 pub corvezan-regular-values-spec : {M : Type 1} → statement M
 corvezan-regular-values-spec =

@@ -1,4 +1,4 @@
-use Rattle.capi.proofs.Guards.{cell-put, cell-refused}
+use Rattle.capi_parts.proofs.Guards.{cell-put, cell-refused}
 use borrow.Author.Needs.{needs}
 use Rattle.capi.proofs.sizes.corvezan_first_cell.Statement.{statement}
 use Rattle.capi.proofs.sizes.corvezan_first_cell.Tie as tie
