@@ -1,5 +1,5 @@
 -- Laws of the rows of a regular line, for both formats. Assumes nothing.
-use mathlib.Core.Path.{_≡_}
+use mathlib.Core.Path.{_≡_, refl}
 use mathlib.Core.List.{List}
 use Prim.Native.Nat.{ℕ, _-_, _≤_, _<_}
 use native.Mathlib.Omega.{arith}
@@ -8,19 +8,25 @@ use lib.Ieee as Ieee
 use lib.Ieee.{Float, Format}
 use Rattle.shape.proofs.Fit.{Looks}
 use Rattle.multibspline.specs.Numbers.{f0, f1, f-1, f4, f6}
-use Rattle.multibspline.specs.Thomas.{withRow}
+use Rattle.multibspline.specs.Thomas.{Row}
 use Rattle.multibspline.proofs.Sweeps.{upper-ext, solution-ext}
-use Rattle.regular_lines.specs.Rows.{firstRow, row, upperNumber, coefficient}
+use Rattle.regular_lines.specs.Rows.{firstRow, innerRow, lastRow, row, upperNumber, coefficient}
 
--- the last row, and the others, from the samples as they are read
-module _ (f : Format) (n m i : ℕ) (y : ℕ → Float) (s s′ : List Float) where
-  pub row-last : (a b : Float) → i ≡ n - 1 → a ≡ y i → b ≡ y (i - 1) → s′ ≡ withRow f m i s (record { lower = f-1; diag = f1; upper = f0; right = Ieee.sub f a b })
-      → s′ ≡ withRow f m i s (row f n y i)
-  row-last a b here ea eb e = rw (eq-eqb i (n - 1) here, ← ea, ← eb) e
+-- the rows that the code makes, from the samples as it reads them
+module _ (f : Format) (y : ℕ → Float) (i : ℕ) where
+  pub inner-is : {a : Float} → a ≡ y i → _≡_ {A = Row} (record { lower = f1; diag = f4; upper = f1; right = Ieee.mul f f6 a }) (innerRow f y i)
+  inner-is ea = rw ea
 
-  pub row-inner : (a : Float) → (i ≡ n - 1 → ⊥) → a ≡ y i → s′ ≡ withRow f m i s (record { lower = f1; diag = f4; upper = f1; right = Ieee.mul f f6 a })
-      → s′ ≡ withRow f m i s (row f n y i)
-  row-inner a here ea e = rw (ne-eqb i (n - 1) here, ← ea) e
+  pub last-is : {a b : Float} → a ≡ y i → b ≡ y (i - 1) → _≡_ {A = Row} (record { lower = f-1; diag = f1; upper = f0; right = Ieee.sub f a b }) (lastRow f y i)
+  last-is ea eb = rw (ea, eb)
+
+-- row i, by whether it is the last
+module _ (f : Format) (n : ℕ) (y : ℕ → Float) where
+  pub row-last : lastRow f y (n - 1) ≡ row f n y (n - 1)
+  row-last = rw (eq-eqb (n - 1) (n - 1) refl)
+
+  pub row-inner : (k : ℕ) → 0 < k → k < n - 1 → innerRow f y k ≡ row f n y k
+  row-inner k pos h = rw (ne-eqb k (n - 1) (λ e. omega arith))
 
 -- a line's rows depend on its own n samples only
 
