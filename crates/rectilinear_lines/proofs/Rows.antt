@@ -1,25 +1,23 @@
 -- Laws of the rows of a rectilinear line, for both formats. Assumes nothing.
-use mathlib.Core.Path.{_≡_, ap, _∙_}
+use mathlib.Core.Path.{_≡_, refl, ap, _∙_}
 use mathlib.Core.List.{List}
 use Prim.Native.Nat.{ℕ, _-_, _≤_, _<_}
 use native.Mathlib.Omega.{arith}
 use borrow.Author.Tests.{eq-eqb, ne-eqb}
-use lib.ListN.{length, set}
+use lib.ListN.{length}
 use lib.Ieee.{Float, Format}
-use Rattle.shape.specs.Fit.{lineScratch}
 use Rattle.shape.proofs.Fit.{Looks}
-use Rattle.multibspline.specs.Thomas.{Row, Reduced, at, withRow, forward}
+use Rattle.multibspline.specs.Thomas.{Row, at}
 use Rattle.multibspline.proofs.Sweeps.{upper-ext, solution-ext}
-use Rattle.rectilinear_lines.specs.Rows.{atKnot, lowRow, highRow, divided, firstRow, innerRow, lastRow, firstAt, row, upperNumber, coefficient}
+use Rattle.rectilinear_lines.specs.Rows.{atKnot, lowRow, highRow, divided, firstRow, innerRow, lastRow, row, upperNumber, coefficient}
 
 -- ---- the rows that the code makes are those of the definition
 
 module _ (f : Format) (ks : List Float) (y : ℕ → Float) where
-  -- scratch with row 0, from the weights at the first two knots and the first two samples
-  pub first-is : (low : List Float) (m : ℕ) {w v : List Float} {a b : Float} {r : Row} (s s′ : List Float) → w ≡ atKnot f ks 0 0 → v ≡ atKnot f ks 1 1 → a ≡ y 0 → b ≡ y 1 → r ≡ lowRow f w v low a b
-      → s′ ≡ set (set s 0 (divided f r .upper)) m (divided f r .right)
-      → s′ ≡ set (set s 0 (firstRow f ks low y .upper)) m (firstRow f ks low y .right)
-  first-is low m s s′ ew ev ea eb er e = rw (ew, ev, ea, eb) at (rw er at e)
+  pub first-is : (low : List Float) {w v : List Float} {a b : Float} {r : Row} → w ≡ atKnot f ks 0 0 → v ≡ atKnot f ks 1 1 → a ≡ y 0 → b ≡ y 1 → r ≡ lowRow f w v low a b → divided f r ≡ firstRow f ks low y
+  first-is low {r = r} ew ev ea eb er =
+      let same : r ≡ lowRow f (atKnot f ks 0 0) (atKnot f ks 1 1) low (y 0) (y 1) = er ∙ rw (ew, ev, ea, eb) in
+      ap (divided f) same
 
   pub inner-is : (i : ℕ) {w : List Float} {a : Float} → w ≡ atKnot f ks i i → a ≡ y i → _≡_ {A = Row} (record { lower = at w 0; diag = at w 1; upper = at w 2; right = a }) (innerRow f ks y i)
   inner-is i ew ea = rw (ew, ea)
@@ -29,20 +27,12 @@ module _ (f : Format) (ks : List Float) (y : ℕ → Float) where
   last-is high ew ev ea eb er = er ∙ rw (ew, ev, ea, eb)
 
   -- row i, by whether it is the last
-  module _ (high : List Float) (m i : ℕ) (s : List Float) {s′ : List Float} where
-    pub row-last : i ≡ length ks - 1 → s′ ≡ withRow f m (length ks - 1) s (lastRow f ks high y) → s′ ≡ withRow f m i s (row f ks high y i)
-    row-last here e = rw (eq-eqb i (length ks - 1) here) (rw here e)
+  module _ (high : List Float) where
+    pub row-last : lastRow f ks high y ≡ row f ks high y (length ks - 1)
+    row-last = rw (eq-eqb (length ks - 1) (length ks - 1) refl)
 
-    pub row-inner : (i ≡ length ks - 1 → ⊥) → s′ ≡ withRow f m i s (innerRow f ks y i) → s′ ≡ withRow f m i s (row f ks high y i)
-    row-inner here e = rw (ne-eqb i (length ks - 1) here) e
-
--- all rows, from row 0 as it stands in scratch
-pub from-first : (f : Format) (rows : ℕ → Row) (n m : ℕ) (first : Reduced) (s s′ : List Float) → at s 0 ≡ first .upper → at s m ≡ first .right
-    → s′ ≡ lineScratch m (λ k. forward f (firstAt m s) rows k .upper) (λ k. forward f (firstAt m s) rows k .right) n s
-    → s′ ≡ lineScratch m (λ k. forward f first rows k .upper) (λ k. forward f first rows k .right) n s
-from-first f rows n m first s s′ eu er e =
-    let same : firstAt m s ≡ first = rw (eu, er) in
-    e ∙ ap (λ (r : Reduced). lineScratch m (λ k. forward f r rows k .upper) (λ k. forward f r rows k .right) n s) same
+    pub row-inner : (k : ℕ) → 0 < k → k < length ks - 1 → innerRow f ks y k ≡ row f ks high y k
+    row-inner k pos h = rw (ne-eqb k (length ks - 1) (λ e. omega arith))
 
 -- ---- a line's rows depend on its own samples only
 

@@ -67,10 +67,6 @@ lastRow f ks high y =
     let n = length ks in
     highRow f (atKnot f ks (n - 2) (n - 1)) (atKnot f ks (n - 2) (n - 2)) high (y (n - 2)) (y (n - 1))
 
--- row 0 reduced, as it stands in scratch
-abbrev pub firstAt : ℕ → List Float → Reduced
-firstAt m scratch = record { upper = at scratch 0; right = at scratch m }
-
 -- row i, after the first
 abbrev pub row : Format → List Float → List Float → (ℕ → Float) → ℕ → Row
 row f ks high y i = cond (eqb i (length ks - 1)) (lastRow f ks high y) (innerRow f ks y i)

@@ -3,21 +3,22 @@
 // from m on.
 ghost use mathlib.Core.Path.{_≡_};
 ghost use Prim.Native.Nat.{ℕ, _+_, _-_, _*_, _≤_, _<_};
-ghost use lib.ListN.{length, set};
+ghost use lib.ListN.{length};
 ghost use lib.Ieee.{binary64, nan};
 ghost use Rattle.shape.specs.Cells.{onLine, line, writeLine};
 ghost use Rattle.shape.specs.Fit.{lineScratch};
 ghost use Rattle.shape.specs.Refusal.{answerNumber};
 ghost use Rattle.multibspline.specs.Thomas as Thomas;
-ghost use Rattle.multibspline.specs.Thomas.{withRow};
+ghost use Rattle.multibspline.specs.Thomas.{reduce, reducedOf, withRow};
 ghost use Rattle.rectilinear_weights.specs.Ghosts.{ghostNumbers};
-ghost use Rattle.rectilinear_lines.specs.Rows.{rowOf, atKnot, lowRow, highRow, firstRow, innerRow, lastRow, firstAt, row, reduced, upperNumber, coefficient};
+ghost use Rattle.rectilinear_lines.specs.Rows.{rowOf, atKnot, lowRow, highRow, firstRow, innerRow, lastRow, reduced, upperNumber, coefficient};
 ghost use Rattle.rectilinear_lines.specs.Line.{LineSolved};
+use multibspline::Reduced;
 use multibspline::back_substitute;
 use multibspline::check_line;
-use multibspline::copy_line;
 use multibspline::eliminate;
 use multibspline::entry;
+use multibspline::keep_row;
 use rectilinear_weights::Ghost;
 use rectilinear_weights::basis_span_weights;
 use shape::Answer;
@@ -70,27 +71,20 @@ pub fn at_knot(grid: &[f64], span: usize, k: usize) -> [f64; 4]
     basis_span_weights(grid, span, grid[k])
 }
 
-// Row 0.
-fn first_row(
-    grid: &[f64],
-    low_ghost: Ghost,
-    base: usize,
-    stride: usize,
-    m: usize,
-    coeffs: &[f64],
-    scratch: &mut [f64],
-)
+// Row 0, divided by its diagonal.
+fn first_row(grid: &[f64], low_ghost: Ghost, base: usize, stride: usize, coeffs: &[f64]) -> Reduced
     requires { ⌜ (4 ≤ length (now grid)) × (onLine base stride (length (now grid) - 1) < length (now coeffs)) ⌝ }
-    requires { ⌜ (length (now grid) ≤ m) × (m + length (now grid) ≤ length (now scratch)) ⌝ }
-    ensures { λ _. ⌜ now (scratch .exit) ≡ set (set (now (scratch .entry)) 0 (firstRow binary64 (now (grid .entry)) (ghostNumbers «low_ghost») (line nan base stride (now (coeffs .entry))) .upper)) m (firstRow binary64 (now (grid .entry)) (ghostNumbers «low_ghost») (line nan base stride (now (coeffs .entry))) .right) ⌝ }
+    ensures { λ r. ⌜ reducedOf r ≡ firstRow binary64 (now (grid .entry)) (ghostNumbers «low_ghost») (line nan base stride (now (coeffs .entry))) ⌝ }
 {
     let w = at_knot(grid, 0, 0);
     let v = at_knot(grid, 1, 1);
     let y0 = entry(base, stride, grid.len(), 0, coeffs);
     let y1 = entry(base, stride, grid.len(), 1, coeffs);
     let row = low_row(w, v, low_ghost, y0, y1);
-    scratch[0] = row.upper / row.diag;
-    scratch[m] = row.right / row.diag;
+    Reduced {
+        upper: row.upper / row.diag,
+        right: row.right / row.diag,
+    }
 }
 
 // Row i, between the first and the last.
@@ -100,16 +94,42 @@ fn inner_row(
     stride: usize,
     m: usize,
     i: usize,
+    before: Reduced,
     coeffs: &[f64],
     scratch: &mut [f64],
-)
-    requires { ⌜ (4 ≤ length (now grid)) × (0 < i) × (i + 1 < length (now grid)) × (onLine base stride (length (now grid) - 1) < length (now coeffs)) ⌝ }
+) -> Reduced
+    requires { ⌜ (4 ≤ length (now grid)) × (i + 1 < length (now grid)) × (onLine base stride (length (now grid) - 1) < length (now coeffs)) ⌝ }
     requires { ⌜ (length (now grid) ≤ m) × (m + length (now grid) ≤ length (now scratch)) ⌝ }
-    ensures { λ _. ⌜ now (scratch .exit) ≡ withRow binary64 m i (now (scratch .entry)) (innerRow binary64 (now (grid .entry)) (line nan base stride (now (coeffs .entry))) i) ⌝ }
+    ensures { λ r. ⌜ reducedOf r ≡ reduce binary64 (innerRow binary64 (now (grid .entry)) (line nan base stride (now (coeffs .entry))) i) (reducedOf «before») ⌝ }
+    ensures { λ r. ⌜ now (scratch .exit) ≡ withRow m i (reducedOf r) (now (scratch .entry)) ⌝ }
 {
     let w = at_knot(grid, i, i);
     let y = entry(base, stride, grid.len(), i, coeffs);
-    eliminate(i, m, w[0], w[1], w[2], y, scratch);
+    eliminate(i, m, w[0], w[1], w[2], y, before, scratch)
+}
+
+// The rows from the first to the last but one. Answers the last but one.
+fn inner_rows(
+    grid: &[f64],
+    base: usize,
+    stride: usize,
+    m: usize,
+    first: Reduced,
+    coeffs: &[f64],
+    scratch: &mut [f64],
+) -> Reduced
+    requires { ⌜ (4 ≤ length (now grid)) × (onLine base stride (length (now grid) - 1) < length (now coeffs)) ⌝ }
+    requires { ⌜ (length (now grid) ≤ m) × (m + length (now grid) ≤ length (now scratch)) ⌝ }
+    ensures { λ r. ⌜ reducedOf r ≡ Thomas.forward binary64 (reducedOf «first») (innerRow binary64 (now (grid .entry)) (line nan base stride (now (coeffs .entry)))) (length (now (grid .entry)) - 2) ⌝ }
+    ensures { λ r. ⌜ now (scratch .exit) ≡ lineScratch m (λ k. Thomas.forward binary64 (reducedOf «first») (innerRow binary64 (now (grid .entry)) (line nan base stride (now (coeffs .entry)))) k .upper) (λ k. Thomas.forward binary64 (reducedOf «first») (innerRow binary64 (now (grid .entry)) (line nan base stride (now (coeffs .entry)))) k .right) (length (now (grid .entry)) - 1) (now (scratch .entry)) ⌝ }
+{
+    keep_row(0, m, first, scratch);
+    let last = grid.len() - 1;
+    let mut row = first;
+    for i in 1..last {
+        row = inner_row(grid, base, stride, m, i, row, coeffs, scratch);
+    }
+    row
 }
 
 // The last row.
@@ -119,61 +139,30 @@ fn last_row(
     base: usize,
     stride: usize,
     m: usize,
+    before: Reduced,
     coeffs: &[f64],
     scratch: &mut [f64],
 )
     requires { ⌜ (4 ≤ length (now grid)) × (onLine base stride (length (now grid) - 1) < length (now coeffs)) ⌝ }
     requires { ⌜ (length (now grid) ≤ m) × (m + length (now grid) ≤ length (now scratch)) ⌝ }
-    ensures { λ _. ⌜ now (scratch .exit) ≡ withRow binary64 m (length (now (grid .entry)) - 1) (now (scratch .entry)) (lastRow binary64 (now (grid .entry)) (ghostNumbers «high_ghost») (line nan base stride (now (coeffs .entry)))) ⌝ }
+    ensures { λ _. ⌜ now (scratch .exit) ≡ withRow m (length (now (grid .entry)) - 1) (reduce binary64 (lastRow binary64 (now (grid .entry)) (ghostNumbers «high_ghost») (line nan base stride (now (coeffs .entry)))) (reducedOf «before»)) (now (scratch .entry)) ⌝ }
 {
     let n = grid.len();
     let w = at_knot(grid, n - 2, n - 1);
     let v = at_knot(grid, n - 2, n - 2);
-    let before = entry(base, stride, n, n - 2, coeffs);
+    let beside = entry(base, stride, n, n - 2, coeffs);
     let y = entry(base, stride, n, n - 1, coeffs);
-    let row = high_row(w, v, high_ghost, before, y);
-    eliminate(n - 1, m, row.lower, row.diag, row.upper, row.right, scratch);
-}
-
-// Row i, after the first.
-fn next_row(
-    grid: &[f64],
-    high_ghost: Ghost,
-    base: usize,
-    stride: usize,
-    m: usize,
-    i: usize,
-    coeffs: &[f64],
-    scratch: &mut [f64],
-)
-    requires { ⌜ (4 ≤ length (now grid)) × (0 < i) × (i < length (now grid)) × (onLine base stride (length (now grid) - 1) < length (now coeffs)) ⌝ }
-    requires { ⌜ (length (now grid) ≤ m) × (m + length (now grid) ≤ length (now scratch)) ⌝ }
-    ensures { λ _. ⌜ now (scratch .exit) ≡ withRow binary64 m i (now (scratch .entry)) (row binary64 (now (grid .entry)) (ghostNumbers «high_ghost») (line nan base stride (now (coeffs .entry))) i) ⌝ }
-{
-    if i == grid.len() - 1 {
-        last_row(grid, high_ghost, base, stride, m, coeffs, scratch);
-    } else {
-        inner_row(grid, base, stride, m, i, coeffs, scratch);
-    }
-}
-
-// The rows after the first, from what the first left.
-fn next_rows(
-    grid: &[f64],
-    high_ghost: Ghost,
-    base: usize,
-    stride: usize,
-    m: usize,
-    coeffs: &[f64],
-    scratch: &mut [f64],
-)
-    requires { ⌜ (4 ≤ length (now grid)) × (onLine base stride (length (now grid) - 1) < length (now coeffs)) ⌝ }
-    requires { ⌜ (length (now grid) ≤ m) × (m + length (now grid) ≤ length (now scratch)) ⌝ }
-    ensures { λ _. ⌜ now (scratch .exit) ≡ lineScratch m (λ k. Thomas.forward binary64 (firstAt m (now (scratch .entry))) (row binary64 (now (grid .entry)) (ghostNumbers «high_ghost») (line nan base stride (now (coeffs .entry)))) k .upper) (λ k. Thomas.forward binary64 (firstAt m (now (scratch .entry))) (row binary64 (now (grid .entry)) (ghostNumbers «high_ghost») (line nan base stride (now (coeffs .entry)))) k .right) (length (now (grid .entry))) (now (scratch .entry)) ⌝ }
-{
-    for i in 1..grid.len() {
-        next_row(grid, high_ghost, base, stride, m, i, coeffs, scratch);
-    }
+    let row = high_row(w, v, high_ghost, beside, y);
+    eliminate(
+        n - 1,
+        m,
+        row.lower,
+        row.diag,
+        row.upper,
+        row.right,
+        before,
+        scratch,
+    );
 }
 
 // Forward elimination: the rows from the first to the last.
@@ -191,8 +180,9 @@ fn forward(
     requires { ⌜ (length (now grid) ≤ m) × (m + length (now grid) ≤ length (now scratch)) ⌝ }
     ensures { λ _. ⌜ now (scratch .exit) ≡ lineScratch m (upperNumber binary64 (now (grid .entry)) (ghostNumbers «low_ghost») (ghostNumbers «high_ghost») (line nan base stride (now (coeffs .entry)))) (λ i. reduced binary64 (now (grid .entry)) (ghostNumbers «low_ghost») (ghostNumbers «high_ghost») (line nan base stride (now (coeffs .entry))) i .right) (length (now (grid .entry))) (now (scratch .entry)) ⌝ }
 {
-    first_row(grid, low_ghost, base, stride, m, coeffs, scratch);
-    next_rows(grid, high_ghost, base, stride, m, coeffs, scratch);
+    let first = first_row(grid, low_ghost, base, stride, coeffs);
+    let before = inner_rows(grid, base, stride, m, first, coeffs, scratch);
+    last_row(grid, high_ghost, base, stride, m, before, coeffs, scratch);
 }
 
 // The samples of a line that is known to fit are replaced by its coefficients.
@@ -221,8 +211,7 @@ pub fn solve_checked(
         coeffs,
         scratch,
     );
-    back_substitute(grid.len(), m, scratch);
-    copy_line(base, stride, grid.len(), m, scratch, coeffs);
+    back_substitute(base, stride, grid.len(), m, coeffs, scratch);
 }
 
 // Replaces the samples of one line by its coefficients. `grid` has the knots of the line's axis, and the ghost numbers are

@@ -1,19 +1,11 @@
-use mathlib.Core.Path.{refl}
-use native.Mathlib.Omega.{arith}
-use borrow.Author.Needs.{needs, scaled-fits}
+use borrow.Author.Needs.{needs}
 use denote.Ref.{now}
-use lib.ListN.{length, length-set}
 use lib.Ieee.{binary64, nan}
 use Rattle.shape.specs.Cells.{line}
 use Rattle.rectilinear_weights.specs.Ghosts.{ghostNumbers}
 use Rattle.rectilinear_lines.proofs.Rows.{first-is}
 use Rattle.rectilinear_lines.proofs.line.first_row.Statement.{statement}
 use Rattle.rectilinear_lines.proofs.line.first_row.Tie as tie
-
-mul-scratch : tie.Need-mul-scratch
-mul-scratch c =
-    let s = c .before .before .before .before .before .before .before .before .before .before in
-    scaled-fits (s .args .m) (length (now (s .args .scratch))) 8 (omega arith) (search needs)
 
 returns : tie.Need-returns
 returns c =
@@ -22,11 +14,11 @@ returns c =
     let y0 = y1 .before in
     let v = y0 .before in
     let w = v .before in
-    let a = w .before .before .before .before .args in
-    first-is binary64 (now (a .grid)) (line nan (a .base) (a .stride) (now (a .coeffs))) (ghostNumbers (a .low-ghost)) (a .m) (now (a .scratch)) _
-    (w .at-knot .ensures) (v .at-knot2 .ensures) (y0 .entry .ensures) (y1 .entry2 .ensures) (r .low-row .ensures) refl
+    let a = w .before .before .before .args in
+    first-is binary64 (now (a .grid)) (line nan (a .base) (a .stride) (now (a .coeffs))) (ghostNumbers (a .low-ghost))
+    (w .at-knot .ensures) (v .at-knot2 .ensures) (y0 .entry .ensures) (y1 .entry2 .ensures) (r .low-row .ensures)
 
 pub first-row-spec : {M : Type 1} → statement M
 first-row-spec =
     tie.close
-    (tie.spec (λ c κs. search needs) (λ c κs. search needs) (λ c κs. search needs) (λ c κs. search needs) (λ c κs. search needs) (λ c. search needs) mul-scratch (λ c. simp length-set (omega arith)) (λ c. search needs) returns)
+    (tie.spec (λ c κs. search needs) (λ c κs. search needs) (λ c κs. search needs) (λ c κs. search needs) (λ c κs. search needs) returns)

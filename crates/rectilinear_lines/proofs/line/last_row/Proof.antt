@@ -1,12 +1,13 @@
-use mathlib.Core.Path.{ap, _∙_}
 use Prim.Native.Nat.{_-_}
 use borrow.Author.Needs.{needs}
 use denote.Ref.{now}
 use lib.ListN.{length}
 use lib.Ieee.{binary64, nan}
 use Rattle.shape.specs.Cells.{line}
-use Rattle.multibspline.specs.Thomas.{withRow}
+use Rattle.multibspline.specs.Thomas.{reducedOf}
+use Rattle.multibspline.proofs.Sweeps.{row-kept}
 use Rattle.rectilinear_weights.specs.Ghosts.{ghostNumbers}
+use Rattle.rectilinear_lines.specs.Rows.{lastRow}
 use Rattle.rectilinear_lines.proofs.Rows.{last-is}
 use Rattle.rectilinear_lines.proofs.line.last_row.Statement.{statement}
 use Rattle.rectilinear_lines.proofs.line.last_row.Tie as tie
@@ -20,9 +21,12 @@ returns c =
     let v = b .before in
     let w = v .before in
     let a = w .before .before .before .before .args in
-    done .eliminate .ensures
-    ∙ ap (withRow binary64 (a .m) (length (now (a .grid)) - 1) (now (a .scratch)))
-    (last-is binary64 (now (a .grid)) (line nan (a .base) (a .stride) (now (a .coeffs))) (ghostNumbers (a .high-ghost)) (w .at-knot .ensures) (v .at-knot2 .ensures) (b .entry .ensures) (y .entry2 .ensures) (r .high-row .ensures))
+    let ks = now (a .grid) in
+    let ys = line nan (a .base) (a .stride) (now (a .coeffs)) in
+    let high = ghostNumbers (a .high-ghost) in
+    row-kept binary64 (a .m) (length ks - 1) _ (lastRow binary64 ks high ys) (reducedOf (a .before)) _ (now (a .scratch)) _
+    (last-is binary64 ks ys high (w .at-knot .ensures) (v .at-knot2 .ensures) (b .entry .ensures) (y .entry2 .ensures) (r .high-row .ensures))
+    (done .eliminate .ensures .0) (done .eliminate .ensures .1)
 
 pub last-row-spec : {M : Type 1} → statement M
 last-row-spec =

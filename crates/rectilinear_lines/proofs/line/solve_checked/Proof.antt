@@ -13,9 +13,8 @@ use Rattle.rectilinear_lines.proofs.line.solve_checked.Tie as tie
 
 returns : tie.Need-returns
 returns c =
-    let copied = c .before .before in
-    let back = copied .before .before .before .before .before in
-    let forth = back .before .before .before .before in
+    let back = c .before .before .before .before in
+    let forth = back .before .before .before .before .before in
     let start = forth .before .before .before .before .before .before in
     let a = start .args in
     let n = length (now (a .grid)) in
@@ -25,11 +24,11 @@ returns c =
     let fits = start .pre .1 in
     let e = forth .forward .ensures in
     let b = back .back-substitute .ensures in (
-      copied .copy-line .ensures ∙ line-coeffs binary64 first rows n (a .m) _ _ _ (omega arith) (fits .0) (fits .1) e b (onLine (a .base) (a .stride)) _,
-      line-scratch binary64 first rows n (a .m) _ _ _ (omega arith) (fits .0) (fits .1) e b,
+      b .0 ∙ line-coeffs binary64 first rows n (a .m) _ _ _ (omega arith) (fits .0) (fits .1) e (b .1) (onLine (a .base) (a .stride)) _,
+      line-scratch binary64 first rows n (a .m) _ _ _ (omega arith) (fits .0) (fits .1) e (b .1),
     )
 
 pub solve-checked-spec : {M : Type 1} → statement M
 solve-checked-spec =
     tie.close
-    (tie.spec (λ c κs. search needs) (λ c κs. search needs) (λ c κs. search needs) (λ c. search needs) (λ c. search needs) returns)
+    (tie.spec (λ c κs. search needs) (λ c κs. search needs) (λ c. search needs) (λ c. search needs) returns)
