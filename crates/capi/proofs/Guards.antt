@@ -6,7 +6,7 @@ use mathlib.Core.List.{List, [], _∷_, _++_}
 use Prim.Native.Nat.{ℕ, zero, suc, _*_}
 use native.Mathlib.Omega.{arith}
 use lib.Dec.{eqb}
-use lib.ListN.{length, take, replicate}
+use lib.ListN.{length, take}
 use lib.Ieee.{Float}
 use borrow.Author.Tests.{eq-eqb, ne-eqb}
 use Rattle.shape.specs.Shape.{first}
@@ -19,11 +19,6 @@ use Rattle.shape.specs.declared.answers.FirstCell.the-variants as FirstCells
 use Rattle.shape.specs.Fit.{Fitted}
 use Rattle.shape.proofs.Accepted.{refused-append, refusal-append, passed-append, accepted-append}
 use Rattle.shape.proofs.Checks.{length-fails, length-passes}
-use Rattle.shape.specs.declared.answers.Answer.the-variants.{Accepted}
-use Rattle.book.specs.LineCall.{State, beginAnswer}
-use Rattle.book.proofs.Answers.{begin-passed}
-use Rattle.stepwise.specs.Calls.{Begun}
-use Rattle.stepwise.proofs.Runs.{begun-accepted}
 use Rattle.ledger.proofs.Stages.{refusal-some, none-refuse}
 use Rattle.evaluation.specs.declared.answers.Valued.{Valued}
 use Rattle.evaluation.specs.declared.answers.Valued.the-variants as Values
@@ -131,19 +126,3 @@ pub without : (before check after : List Check) → firstRefusal (check ++ after
 unfolding firstRefusal
 without [] check after e = e
 without (c ∷ before) check after e = ap (cond (c .fails) (c .number)) (without before check after e)
-
--- ---- begin
-
-module _ {count : ℕ} {lens : List ℕ} {grid knots : List Check} {A : Type 0} {samples : List A} {state : State A} {scratch n : ℕ} (e : n ≡ beginAnswer count lens grid knots (length samples) (length (state .coefs)) (length (state .ledger)) scratch) where
-  pub begun-not : (n ≡ 0 → ⊥) → Begun count lens grid knots samples state scratch n state
-  begun-not h = let b = some h {k = n} refl in record { answered = e; leaves = rw b }
-
-  pub begun-so : Positive grid → Positive knots → {coefs′ : List A} {ledger′ : List ℕ} → n ≡ 0 → coefs′ ≡ samples → ledger′ ≡ replicate (length (state .ledger)) 0
-      → Begun count lens grid knots samples state scratch n (record { coefs = coefs′; ledger = ledger′ })
-  begun-so pg pk z ec el = rw z (begun-accepted {x = Accepted} pg pk refl (sym z ∙ e) ec el)
-
-pub begun-lengths : (count : ℕ) (lens : List ℕ) (grid knots : List Check) → Positive grid → Positive knots → (samples coefs ledger scratch : ℕ) {n : ℕ}
-    → n ≡ beginAnswer count lens grid knots samples coefs ledger scratch → n ≡ 0 → samples ≡ coefs
-begun-lengths count lens grid knots pg pk samples coefs ledger scratch e z =
-    let p = begin-passed count lens grid knots pg pk samples coefs ledger scratch (sym e ∙ z) in
-    p .samples-size ∙ sym (p .coefs-size)

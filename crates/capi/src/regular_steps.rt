@@ -1,40 +1,10 @@
 // Stepwise fitting on a regular grid.
-ghost use mathlib.Core.Path.{_≡_};
-ghost use mathlib.Core.List.{[]};
 ghost use lib.ListN.{length};
 ghost use lib.Ieee.{binary64};
-ghost use Rattle.shape.specs.Refusal.{answerNumber};
-ghost use Rattle.book.specs.LineCall.{beginAnswer};
 ghost use Rattle.stepwise.specs.Regular.{RegularBegun, RegularLineCalled, RegularRan};
 ghost use Rattle.capi.specs.Inputs.{lensOf};
 use crate::inputs::shape_of;
 use crate::outputs::number;
-use ledger::check_held;
-use ledger::check_lent;
-use ledger::start;
-use shape::Answer;
-use shape::Shape;
-
-// The checks of begin, from the lengths of its buffers: `stepwise` takes scratch itself, of which C hands only the length.
-fn check_begin(
-    count: usize,
-    dims: [usize; 4],
-    vals: usize,
-    coeffs: usize,
-    ledger: usize,
-    scratch: usize,
-) -> Answer
-    ensures { λ r. ⌜ answerNumber r ≡ beginAnswer count dims [] [] vals coeffs ledger scratch ⌝ }
-{
-    let shape = Shape { count, dims };
-    if let Answer::Refused(refusal) = shape.check() {
-        return Answer::Refused(refusal);
-    }
-    if let Answer::Refused(refusal) = check_held(count, dims, coeffs, ledger) {
-        return Answer::Refused(refusal);
-    }
-    check_lent(count, dims, vals, scratch)
-}
 
 #[no_mangle]
 pub extern "C" fn corvezan_regular_begin(
@@ -48,18 +18,7 @@ pub extern "C" fn corvezan_regular_begin(
 {
     let shape = shape_of(dims);
     let lens = shape.dims;
-    let refused = number(check_begin(
-        shape.count,
-        lens,
-        vals.len(),
-        coeffs.len(),
-        ledger.len(),
-        scratch_len,
-    ));
-    if refused == 0 {
-        start(vals, coeffs, ledger);
-    }
-    refused
+    number(stepwise::begin_regular_by_len(shape.count, lens, vals, coeffs, ledger, scratch_len))
 }
 
 #[no_mangle]

@@ -1,69 +1,12 @@
-use Rattle.knots.specs.Checks.{gridCheck, knotsCheck}
-use mathlib.Core.Path.{_∙_}
-use denote.Ref.{now}
-use lib.ListN.{length, take}
-use Rattle.capi.specs.Inputs.{lensOf}
-use Rattle.stepwise.proofs.Rectilinear.{grid-positive, knots-positive}
-use Rattle.capi.proofs.Guards.{begun-not, begun-so, begun-lengths}
 use borrow.Author.Needs.{needs}
 use Rattle.capi.proofs.rectilinear_steps.corvezan_rectilinear_begin.Statement.{statement}
 use Rattle.capi.proofs.rectilinear_steps.corvezan_rectilinear_begin.Tie as tie
 
-shape-of-requires : tie.Need-shape-of-requires
-shape-of-requires c κs = search needs
-
-check-begin-requires : tie.Need-check-begin-requires
-check-begin-requires c κs = search needs
-
-number-requires : tie.Need-number-requires
-number-requires c κs = search needs
-
-start-requires : tie.Need-start-requires
-start-requires c κs =
-    let i = c .before .before in
-    let n = i .before in
-    let k = n .before in
-    let h = k .before .before in
-    let a = h .before .before .before .before .before .before .args in
-    let e = n .number .ensures ∙ (rw (h .shape-of .ensures) at (k .check-begin .ensures)) in
-    begun-lengths (length (now (a .dims))) (lensOf (now (a .dims))) (gridCheck (take (length (now (a .dims))) (lensOf (now (a .dims)))) (now (a .grid))) (knotsCheck (take (length (now (a .dims))) (lensOf (now (a .dims)))) (now (a .grid))) (grid-positive (take (length (now (a .dims))) (lensOf (now (a .dims)))) (now (a .grid))) (knots-positive (take (length (now (a .dims))) (lensOf (now (a .dims)))) (now (a .grid))) (length (now (a .vals))) (length (now (a .coeffs))) (length (now (a .ledger))) (a .scratch-len) e (i .if1 .taken)
-
-same-length : tie.Need-same-length
-same-length c = search needs
-
-same-length-2 : tie.Need-same-length-2
-same-length-2 c = search needs
-
 returns : tie.Need-returns
 returns c =
-    let v = c .before .before .before .before in
-    let i = v .before .before .before in
-    let n = i .before in
-    let k = n .before in
-    let h = k .before .before in
-    let a = h .before .before .before .before .before .before .args in
-    let e = n .number .ensures ∙ (rw (h .shape-of .ensures) at (k .check-begin .ensures)) in
-    begun-so {samples = now (a .vals)} {state = record { coefs = now (a .coeffs); ledger = now (a .ledger) }} e (grid-positive (take (length (now (a .dims))) (lensOf (now (a .dims)))) (now (a .grid))) (knots-positive (take (length (now (a .dims))) (lensOf (now (a .dims)))) (now (a .grid))) (i .if1 .taken) (v .start .ensures .0) (v .start .ensures .1)
-
-returns-2 : tie.Need-returns-2
-returns-2 c =
-    let i = c in
-    let n = i .before in
-    let k = n .before in
-    let h = k .before .before in
-    let a = h .before .before .before .before .before .before .args in
-    let e = n .number .ensures ∙ (rw (h .shape-of .ensures) at (k .check-begin .ensures)) in
-    begun-not {samples = now (a .vals)} {state = record { coefs = now (a .coeffs); ledger = now (a .ledger) }} e (i .if1 .left)
+    let begun = c .before .before .before .before .before in
+    rw (c .number .ensures) (rw (begun .before .before .before .before .shape-of .ensures) at (begun .begin-rectilinear-by-len .ensures))
 
 pub corvezan-rectilinear-begin-spec : {M : Type 1} → statement M
 corvezan-rectilinear-begin-spec =
-    tie.close
-    (tie.spec
-    shape-of-requires
-    check-begin-requires
-    number-requires
-    start-requires
-    same-length
-    same-length-2
-    returns
-    returns-2)
+    tie.close (tie.spec (λ c κs. search needs) (λ c κs. search needs) (λ c κs. search needs) (λ c. search needs) (λ c. search needs) returns)
