@@ -19,7 +19,7 @@ pub extern "C" fn corvezan_rectilinear_begin(
 {
     let shape = shape_of(dims);
     let lens = shape.dims;
-    number(stepwise::begin_rectilinear_by_length(
+    number(stepwise::begin_rectilinear_by_len(
         shape.count,
         lens,
         grid,

@@ -18,7 +18,7 @@ pub extern "C" fn corvezan_regular_begin(
 {
     let shape = shape_of(dims);
     let lens = shape.dims;
-    number(stepwise::begin_regular_by_length(shape.count, lens, vals, coeffs, ledger, scratch_len))
+    number(stepwise::begin_regular_by_len(shape.count, lens, vals, coeffs, ledger, scratch_len))
 }
 
 #[no_mangle]

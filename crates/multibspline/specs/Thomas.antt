@@ -5,6 +5,7 @@ use mathlib.Core.List.{List}
 use lib.ListN.{getD, set}
 use lib.Ieee as Ieee
 use lib.Ieee.{Float, Format, nan}
+use Rattle.multibspline.specs.declared.Reduced as declared
 
 pub record Row : Type 0 where
   pub lower : Float
@@ -16,6 +17,10 @@ pub record Row : Type 0 where
 pub record Reduced : Type 0 where
   pub upper : Float
   pub right : Float
+
+-- the code's record of it
+abbrev pub reducedOf : declared.Reduced → Reduced
+reducedOf r = record { upper = r .upper; right = r .right }
 
 -- a row, with the reduced row before it eliminated
 abbrev pub denom : Format → Row → Reduced → Float
@@ -55,10 +60,15 @@ solution f first row n i = backAt f (λ k. forward f first row k .upper) (λ k. 
 abbrev pub at : List Float → ℕ → Float
 at scratch i = getD scratch i nan
 
--- row i reduced, with the reduced row before it in scratch
-unfoldable pub reduceAt : Format → Row → List Float → ℕ → ℕ → Reduced
-reduceAt f row scratch m i = reduce f row (record { upper = at scratch (i - 1); right = at scratch (m + (i - 1)) })
-
 -- scratch with row i reduced
-abbrev pub withRow : Format → ℕ → ℕ → List Float → Row → List Float
-withRow f m i scratch row = set (set scratch i (reduceAt f row scratch m i .upper)) (m + i) (reduceAt f row scratch m i .right)
+abbrev pub withRow : ℕ → ℕ → Reduced → List Float → List Float
+withRow m i row scratch = set (set scratch i (row .upper)) (m + i) (row .right)
+
+-- x(i), from the reduced rows in scratch
+abbrev pub solved : Format → ℕ → ℕ → List Float → ℕ → Float
+solved f n m scratch i = backAt f (at scratch) (λ k. at scratch (m + k)) (n - 1) i
+
+-- cell `place i` set to `g i` for each i below n, the last first
+abbrev pub putDown : (ℕ → ℕ) → (ℕ → Float) → ℕ → List Float → List Float
+putDown place g zero xs = xs
+putDown place g (suc n) xs = putDown place g n (set xs (place n) (g n))

@@ -8,7 +8,7 @@ use Rattle.shape.specs.Usable.{Usable}
 use Rattle.knots.specs.Joined.{total, knotsOf}
 use Rattle.knots.proofs.Totals.{part-length, part-long}
 use Rattle.rectilinear_weights.specs.Ghosts.{lowGhostCoeffs, highGhostCoeffs}
-use Rattle.rectilinear.specs.Rows.{upperNumber, coefficient}
+use Rattle.rectilinear_lines.specs.Rows.{upperNumber, coefficient}
 use Rattle.rectilinear.specs.Fit.{solve, upper}
 
 module _ (count : ℕ) (lens : List ℕ) (four : length lens ≡ 4) (u : Usable count lens) (a : ℕ) (ha : a < count) (grid : List Float) {ks : List Float} (joined : length grid ≡ total (take count lens)) (part : ks ≡ knotsOf grid (take count lens) a) where

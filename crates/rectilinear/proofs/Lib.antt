@@ -1,5 +1,3 @@
-pub mod Rows
-pub mod Sweeps
 pub mod Axis
 pub mod FitChecks
 pub mod Total

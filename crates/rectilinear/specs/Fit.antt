@@ -10,7 +10,7 @@ use Rattle.shape.specs.Checks.{Check, firstRefusal, inOrder, shapeChecks, lengt
 use Rattle.knots.specs.Joined.{knotsOf}
 use Rattle.knots.specs.Checks.{gridCheck, knotsCheck}
 use Rattle.rectilinear_weights.specs.Ghosts.{lowGhostCoeffs, highGhostCoeffs}
-use Rattle.rectilinear.specs.Rows.{coefficient, upperNumber}
+use Rattle.rectilinear_lines.specs.Rows.{coefficient, upperNumber}
 
 -- a line of axis a, solved: from its samples y, coefficient i, and upper number i of its elimination
 abbrev pub solve : Format → List Float → List ℕ → ℕ → (ℕ → Float) → ℕ → Float

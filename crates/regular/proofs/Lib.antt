@@ -1,4 +1,2 @@
-pub mod Rows
-pub mod Sweeps
 pub mod FitChecks
 pub mod Total

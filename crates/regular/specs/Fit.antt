@@ -7,7 +7,7 @@ use Rattle.shape.specs.Shape.{points}
 use Rattle.shape.specs.Fit as Axes
 use Rattle.shape.specs.Fit.{Fitted}
 use Rattle.shape.specs.Checks.{firstRefusal, regularFitChecks}
-use Rattle.regular.specs.Rows.{coefficient, upperNumber}
+use Rattle.regular_lines.specs.Rows.{coefficient, upperNumber}
 
 -- a line of axis a, solved: from its samples y, coefficient i, and upper number i of its elimination
 abbrev pub solve : Format → List ℕ → ℕ → (ℕ → Float) → ℕ → Float

@@ -17,7 +17,7 @@ use Rattle.knots.specs.Checks.{gridCheck, knotsCheck}
 use Rattle.knots.proofs.Totals.{length-knotsOf}
 use Rattle.rectilinear_weights.specs.Ghosts.{lowGhostCoeffs, highGhostCoeffs}
 use Rattle.rectilinear.specs.Fit.{solve}
-use Rattle.rectilinear.proofs.Rows.{looks-coefficient}
+use Rattle.rectilinear_lines.proofs.Rows.{looks-coefficient}
 use Rattle.book.proofs.Answers.{begin-passed}
 use Rattle.book.proofs.Order.{order-never-shows}
 use Rattle.ledger.proofs.Stages.{none-refuse}

@@ -4,7 +4,7 @@ use lib.ListN.{take}
 use lib.Ieee.{Float, nan}
 use Rattle.shape.specs.Shape.{points}
 use Rattle.regular.specs.Fit.{solve}
-use Rattle.regular.proofs.Rows.{looks-coefficient}
+use Rattle.regular_lines.proofs.Rows.{looks-coefficient}
 use Rattle.book.proofs.Order.{order-never-shows}
 use Rattle.stepwise.specs.Regular.{RegularOrderNeverShows}
 

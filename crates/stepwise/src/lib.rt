@@ -4,10 +4,10 @@ mod rectilinear_steps;
 mod regular_steps;
 
 pub use rectilinear_steps::begin_rectilinear;
-pub use rectilinear_steps::begin_rectilinear_by_length;
+pub use rectilinear_steps::begin_rectilinear_by_len;
 pub use rectilinear_steps::fit_rectilinear_by_list;
 pub use rectilinear_steps::solve_rectilinear_line;
 pub use regular_steps::begin_regular;
-pub use regular_steps::begin_regular_by_length;
+pub use regular_steps::begin_regular_by_len;
 pub use regular_steps::fit_regular_by_list;
 pub use regular_steps::solve_regular_line;

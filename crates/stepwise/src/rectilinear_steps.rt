@@ -91,8 +91,8 @@ fn check_begin(
     check_lent(count, dims, vals, scratch)
 }
 
-// Begin, from the length of scratch, of which it looks at no more: for a caller that has no scratch at hand yet.
-pub fn begin_rectilinear_by_length(
+// Begins a stepwise fit, with scratch by its length: begin writes nothing to it.
+pub fn begin_rectilinear_by_len(
     count: usize,
     dims: [usize; 4],
     grid: &[f64],
@@ -135,7 +135,7 @@ pub fn begin_rectilinear(
 {
     let count = shape.count;
     let dims = shape.dims;
-    begin_rectilinear_by_length(count, dims, grid, vals, coeffs, ledger, scratch.len())
+    begin_rectilinear_by_len(count, dims, grid, vals, coeffs, ledger, scratch.len())
 }
 
 // ---- the line call

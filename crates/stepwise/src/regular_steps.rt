@@ -55,8 +55,8 @@ fn check_begin(
     check_lent(count, dims, vals, scratch)
 }
 
-// Begin, from the length of scratch, of which it looks at no more: for a caller that has no scratch at hand yet.
-pub fn begin_regular_by_length(
+// Begins a stepwise fit, with scratch by its length: begin writes nothing to it.
+pub fn begin_regular_by_len(
     count: usize,
     dims: [usize; 4],
     vals: &[f64],
@@ -96,7 +96,7 @@ pub fn begin_regular(
 {
     let count = shape.count;
     let dims = shape.dims;
-    begin_regular_by_length(count, dims, vals, coeffs, ledger, scratch.len())
+    begin_regular_by_len(count, dims, vals, coeffs, ledger, scratch.len())
 }
 
 // ---- the line call

@@ -1,16 +1,24 @@
 use borrow.Author.Needs.{needs}
+use denote.Ref.{now}
+use Prim.Native.Nat.{_-_}
 use lib.Ieee.{binary64}
-use Rattle.multibspline.proofs.Sweeps.{Substituted, sub-start, sub-step, sub-done}
+use Rattle.multibspline.specs.Thomas.{solved}
+use Rattle.multibspline.proofs.Sweeps.{back-last, line-down}
 use Rattle.multibspline.proofs.back_substitute.Statement.{statement}
 use Rattle.multibspline.proofs.back_substitute.Tie as tie
 
-abbrev Inv : tie.InvT-loop
-Inv n m scratch₀ i₀ scratch i = Substituted binary64 n m scratch₀ scratch i
-
-abbrev μ : tie.MeasureT-loop
-μ n m scratch₀ i₀ scratch i = i
+returns : tie.Need-returns
+returns c =
+    let last = c .before .before in
+    let rows = last .before .before .before .before .before .before in
+    let start = rows .before .before .before .before .before .before in
+    let a = start .args in (
+      line-down (a .base) (a .stride) (solved binary64 (a .n) (a .m) (now (a .scratch))) (a .n) (now (a .coeffs)) _ _ _ (start .pre .0 .0) (rows .back-rows .ensures .0) (back-last binary64 _ _ (a .n - 1)) (last .set-entry .ensures),
+      rows .back-rows .ensures .1,
+    )
 
 pub back-substitute-spec : {M : Type 1} → statement M
 back-substitute-spec =
     tie.close
-    (tie.spec Inv μ (λ c. search needs) (λ c. search sub-start) (λ c. search needs) (λ c κs. search needs) (λ c. search needs) (λ c. search sub-step) (λ c. search needs) (λ c. sub-done (c .before .loop .inv) (c .loop-test .left) (c .before .before .before .pre .2)))
+    (tie.spec (λ c. search needs) (λ c. search needs) (λ c. search needs) (λ c. search needs) (λ c κs. search needs) (λ c. search needs) (λ c κs. search needs)
+    (λ c. search needs) (λ c. search needs) returns)

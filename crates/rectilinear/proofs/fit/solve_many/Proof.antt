@@ -7,9 +7,9 @@ use Rattle.shape.proofs.Lines.{first-cell-room}
 use Rattle.lanes.specs.Lanes.{zeros}
 use Rattle.lanes.proofs.Groups.{lines-room, uppers-hold, keep-room, axis-leaves}
 use Rattle.rectilinear_weights.specs.Ghosts.{ghostNumbers}
-use Rattle.rectilinear.specs.Rows.{coefficient, upperNumber}
-use Rattle.rectilinear.proofs.Rows.{looks-coefficient}
-use Rattle.rectilinear.proofs.Sweeps.{upper-same}
+use Rattle.rectilinear_lines.specs.Rows.{coefficient, upperNumber}
+use Rattle.rectilinear_lines.proofs.Rows.{looks-coefficient}
+use Rattle.rectilinear_sweeps.proofs.Sweeps.{upper-same}
 use Rattle.rectilinear.proofs.fit.solve_many.Statement.{statement}
 use Rattle.rectilinear.proofs.fit.solve_many.Tie as tie
 

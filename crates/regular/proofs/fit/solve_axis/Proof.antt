@@ -7,7 +7,7 @@ use borrow.Author.Needs.{needs}
 use Rattle.shape.proofs.Accepted.{AxisIs, axis-is, axis-within}
 use Rattle.shape.proofs.Lines.{axis-coefs, axis-scratch}
 use Rattle.lanes.proofs.Groups.{axis-whole}
-use Rattle.regular.specs.Rows.{coefficient, upperNumber}
+use Rattle.regular_lines.specs.Rows.{coefficient, upperNumber}
 use Rattle.regular.specs.Fit.{solve, upper}
 use Rattle.regular.proofs.fit.solve_axis.Statement.{statement}
 use Rattle.regular.proofs.fit.solve_axis.Tie as tie

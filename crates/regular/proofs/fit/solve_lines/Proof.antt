@@ -3,7 +3,7 @@ use borrow.Author.Needs.{needs}
 use denote.Ref.{now}
 use lib.Ieee.{binary64}
 use Rattle.lanes.proofs.Groups.{lone-coefs, lone-leaves}
-use Rattle.regular.specs.Rows.{coefficient, upperNumber}
+use Rattle.regular_lines.specs.Rows.{coefficient, upperNumber}
 use Rattle.regular.proofs.fit.solve_lines.Statement.{statement}
 use Rattle.regular.proofs.fit.solve_lines.Tie as tie
 

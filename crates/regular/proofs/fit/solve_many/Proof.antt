@@ -6,9 +6,9 @@ use lib.Ieee.{binary64, nan}
 use Rattle.shape.proofs.Lines.{first-cell-room}
 use Rattle.lanes.specs.Lanes.{zeros}
 use Rattle.lanes.proofs.Groups.{lines-room, uppers-hold, keep-room, axis-leaves}
-use Rattle.regular.specs.Rows.{coefficient, upperNumber}
-use Rattle.regular.proofs.Rows.{looks-coefficient}
-use Rattle.regular.proofs.Sweeps.{upper-same}
+use Rattle.regular_lines.specs.Rows.{coefficient, upperNumber}
+use Rattle.regular_lines.proofs.Rows.{looks-coefficient}
+use Rattle.regular_sweeps.proofs.Sweeps.{upper-same}
 use Rattle.regular.proofs.fit.solve_many.Statement.{statement}
 use Rattle.regular.proofs.fit.solve_many.Tie as tie
 

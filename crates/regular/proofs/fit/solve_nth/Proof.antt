@@ -2,7 +2,7 @@ use denote.Ref.{now}
 use lib.Ieee.{binary64, nan}
 use borrow.Author.Needs.{needs}
 use Rattle.shape.proofs.Lines.{first-cell-room, line-room, nth-coefs, nth-scratch}
-use Rattle.regular.specs.Rows.{coefficient, upperNumber}
+use Rattle.regular_lines.specs.Rows.{coefficient, upperNumber}
 use Rattle.regular.proofs.fit.solve_nth.Statement.{statement}
 use Rattle.regular.proofs.fit.solve_nth.Tie as tie
 

@@ -5,7 +5,7 @@ use lib.ListN.{length, take}
 use lib.Ieee.{binary64, nan}
 use borrow.Author.Needs.{needs}
 use Rattle.shape.proofs.Accepted.{axis-is, axis-within}
-use Rattle.regular.specs.Rows.{coefficient, upperNumber}
+use Rattle.regular_lines.specs.Rows.{coefficient, upperNumber}
 use Rattle.regular.specs.Fit.{solve, upper}
 use Rattle.stepwise.proofs.OneLine.{one-coefs, one-scratch}
 use Rattle.stepwise.proofs.regular_steps.solve_due.Statement.{statement}
