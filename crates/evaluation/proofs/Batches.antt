@@ -17,6 +17,7 @@ use Rattle.shape.specs.declared.answers.Answer.{Answer}
 use Rattle.shape.specs.declared.answers.Answer.the-variants.{Accepted, Refused}
 use Rattle.shape.proofs.Accepted.{refusal-suc}
 use Rattle.evaluation.specs.Batch.{before, written, Entry, Entries, Batch}
+use Rattle.evaluation.specs.Block.{Block}
 
 -- ---- before the first bad one
 
@@ -89,6 +90,52 @@ module _ (bad : ℕ → Bool) (step : ℕ → List Float → List Float) (n : �
       let all : i ≡ n = omega (arith, w .most) in
       let going = rw all at (w .going) in
       record { answers = rw (going, le-ltb n n (omega arith)); leaves = rw going (rw all at (w .values)) }
+
+-- ---- the loop over the blocks
+
+module _ (bad : ℕ → Bool) (step : ℕ → List Float → List Float) where
+  -- entries none of which is bad
+  before-block : (i : ℕ) → before bad i ≡ i → (r : ℕ) → ((k : ℕ) → k < r → bad (i + k) ≡ false) → before bad (i + r) ≡ i + r
+  before-block i e zero h = let z : i + 0 ≡ i = omega arith in rw z e
+  before-block i e (suc r) h =
+      let z : i + suc r ≡ i + r + 1 = omega arith in
+      rw z (before-next bad (i + r) (before-block i e r (λ k l. h k (omega arith))) (h r (omega arith)))
+
+  -- the entries of a block follow those before it
+  written-block : (i r : ℕ) (out : List Float) → written (λ k. step (i + k)) r (written step i out) ≡ written step (i + r) out
+  unfolding written
+  written-block i zero out = let z : i + 0 ≡ i = omega arith in rw z
+  written-block i (suc r) out =
+      let z : i + suc r ≡ suc (i + r) = omega arith in
+      rw z (ap (step (i + r)) (written-block i r out))
+
+  -- an empty block
+  pub block-none : (start m : ℕ) {out : List Float} → (0 < m → bad start ≡ true) → Block bad step start m out 0 out
+  unfolding written
+  block-none start m h =
+      let z : start + 0 ≡ start = omega arith in
+      record { most = omega arith; good = λ k l. absurd (let q : ⊥ = omega arith in q); stops = λ l. rw z (h l); leaves = refl }
+
+  module _ (n : ℕ) {out₀ out out′ : List Float} {i m r : ℕ} (w : Running bad step n out₀ out i) (fits : i + m ≤ n) (b : Block bad step i m out r out′) where
+    values-after : out′ ≡ written step (i + r) out₀
+    values-after = b .leaves ∙ ap (written (λ k. step (i + k)) r) (w .values) ∙ written-block i r out₀
+
+    -- all entries of the block are done
+    pub block-next : length out′ ≡ length out → m ≤ r → Running bad step n out₀ out′ (i + m)
+    block-next len all =
+        let e : r ≡ m = omega (arith, b .most) in
+        record {
+          most = fits;
+          length-out = len ∙ w .length-out;
+          going = rw (← e) (before-block i (w .going) r (b .good));
+          values = rw (← e) values-after;
+        }
+
+    -- an entry of it is bad
+    pub block-stop : r < m → Entries bad step n out₀ 6 out′
+    block-stop some =
+        let stop = before-stop bad (i + r) (before-block i (w .going) r (b .good)) (b .stops some) n (omega arith) in
+        record { answers = rw (stop, lt-ltb (i + r) n (omega arith)); leaves = rw stop values-after }
 
 -- ---- a whole batch: refused before its entries, or by them
 
