@@ -33,9 +33,9 @@ module _ {row : ℕ → List Float} {table : List (List Float)} where
         ];
       }
 
-last-at : {A : Type 0} (xs : List A) (x d : A) → getD (xs ++ x ∷ []) (length xs) d ≡ x
-last-at [] x d = refl
-last-at (y ∷ xs) x d = last-at xs x d
+next-at : {A : Type 0} (xs : List A) (x : A) (ys : List A) (d : A) → getD (xs ++ x ∷ ys) (length xs) d ≡ x
+next-at [] x ys d = refl
+next-at (y ∷ xs) x ys d = next-at xs x ys d
 
 module _ (f : Format) (coefs : List Float) where
   -- ---- lanes
@@ -79,13 +79,17 @@ module _ (f : Format) (coefs : List Float) where
   pub lanes-on : (ss : List ℕ) (ws : List (List Float)) (s : ℕ) (w : List Float) (j at : ℕ) {table : List (List Float)} {p : ℕ} → length ss ≡ j → length ws ≡ j
       → RowsTo (λ k. lanes f coefs ss ws j (at + k * s)) table p → 4 ≤ p → across f w table ≡ lanes f coefs (ss ++ s ∷ []) (ws ++ w ∷ []) (suc j) at
   lanes-on ss ws s w j at {table} {p} es ew rows all =
-      let own : getD (ss ++ s ∷ []) j 0 ≡ s = rw (← es) (last-at ss s 0) in
-      let weights : getD (ws ++ w ∷ []) j [] ≡ w = rw (← ew) (last-at ws w []) in
+      let own : getD (ss ++ s ∷ []) j 0 ≡ s = rw (← es) (next-at ss s [] 0) in
+      let weights : getD (ws ++ w ∷ []) j [] ≡ w = rw (← ew) (next-at ws w [] []) in
       let wide : RowsTo (λ k. lanes f coefs (ss ++ s ∷ []) (ws ++ w ∷ []) j (at + k * getD (ss ++ s ∷ []) j 0)) table p =
       record { most = rows .most; four = rows .four; at = λ k h. rows .at k h ∙ rw own (lanes-more ss (s ∷ []) ws (w ∷ []) j _ (omega arith) (omega arith)) } in
       rw weights at (lanes-up (ss ++ s ∷ []) (ws ++ w ∷ []) j at wide all)
 
   -- and the last axis, of stride 1, makes one sum of the lanes
-  pub lanes-end : (strides : List ℕ) (weights : List (List Float)) (j at : ℕ) → getD strides j 0 ≡ 1 → dot4 f (getD weights j []) (lanes f coefs strides weights j at) ≡ summed f coefs strides weights (suc j) at
+  pub lanes-end : (ss ts : List ℕ) (ws us : List (List Float)) (w : List Float) (j at : ℕ) → length ss ≡ j → length ws ≡ j
+      → dot4 f w (lanes f coefs ss ws j at) ≡ summed f coefs (ss ++ 1 ∷ ts) (ws ++ w ∷ us) (suc j) at
   unfolding lanes summed
-  lanes-end strides weights j at one = rw one
+  lanes-end ss ts ws us w j at es ew =
+      let own : getD (ss ++ 1 ∷ ts) j 0 ≡ 1 = rw (← es) (next-at ss 1 ts 0) in
+      let weights : getD (ws ++ w ∷ us) j [] ≡ w = rw (← ew) (next-at ws w us []) in
+      rw (own, weights, lanes-more ss (1 ∷ ts) ws (w ∷ us) j at (omega arith) (omega arith))
