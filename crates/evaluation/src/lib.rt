@@ -1,6 +1,7 @@
 // What evaluating a map is on either grid: the coordinates of a query, the sums over the coefficients that count, the answers.
 mod answers;
 mod block;
+mod gradients;
 mod in_use;
 mod places;
 mod sums;
