@@ -241,3 +241,67 @@ fn put_gradients_4(
         k += 1;
     }
 }
+
+// The gradients of m queries of a block, from entry `from` on, of n.
+pub fn put_gradients(
+    count: usize,
+    strides: &[usize; 4],
+    coeffs: &[f64],
+    firsts: &[usize],
+    rows: &[f64],
+    slopes: &[f64],
+    cap: usize,
+    n: usize,
+    from: usize,
+    m: usize,
+    out: &mut [f64],
+)
+    requires { ⌜ (2 ≤ count) × (count ≤ 4) × (getD (now strides) (count - 1) 0 ≡ 1) × (m ≤ cap) × (m ≤ length (now firsts)) × (4 * (cap * count) ≤ length (now rows)) × (4 * (cap * count) ≤ length (now slopes)) × (from + m ≤ n) × (count * n ≤ length (now out)) × Firsts (now firsts) m (reach (now strides)) (length (now coeffs)) ⌝ }
+    ensures { λ _. ⌜ now (out .exit) ≡ written (λ k o. put (λ j. j * n + (from + k)) (λ j. gradientPart binary64 (now (coeffs .entry)) (now (strides .entry)) (weightsOf (now (rows .entry)) cap k) (weightsOf (now (slopes .entry)) cap k) count (getD (now (firsts .entry)) k 0) j) count o) m (now (out .entry)) ⌝ }
+{
+    if count == 2 {
+        put_gradients_2(
+            coeffs,
+            strides[0],
+            firsts,
+            rows,
+            slopes,
+            cap,
+            n,
+            from,
+            m,
+            out,
+        );
+        return;
+    }
+    if count == 3 {
+        put_gradients_3(
+            coeffs,
+            strides[0],
+            strides[1],
+            firsts,
+            rows,
+            slopes,
+            cap,
+            n,
+            from,
+            m,
+            out,
+        );
+        return;
+    }
+    put_gradients_4(
+        coeffs,
+        strides[0],
+        strides[1],
+        strides[2],
+        firsts,
+        rows,
+        slopes,
+        cap,
+        n,
+        from,
+        m,
+        out,
+    );
+}
