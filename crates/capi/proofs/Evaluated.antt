@@ -8,28 +8,26 @@ use lib.Dec.{eqb}
 use lib.ListN.{length, take, getD}
 use lib.Ieee.{Float, Format, nan}
 use Rattle.shape.specs.Cells.{put}
-use Rattle.shape.specs.declared.Shape.{Shape}
 use Rattle.shape.specs.Checks.{Check, refuse, firstRefusal, shapeChecks, lengthCheck, regularFitChecks}
 use Rattle.shape.proofs.Checks.{length-passes, length-passed}
 use Rattle.shape.proofs.Accepted.{prefix-passed, accepted-append, usable}
 use Rattle.evaluation.specs.Axes.{query, zeros}
 use Rattle.evaluation.specs.Spline.{Spline, gradient, valuedNumber, valuedValue, oneAnswer, OneValue, OneGradient, batchAnswer, gradientBatchAnswer}
-use Rattle.evaluation.specs.Built.{BuiltFrom}
 use Rattle.evaluation.specs.Batch.{badAt, valueStep, gradientStep, ValueBatch, GradientBatch}
 use Rattle.evaluation.specs.declared.answers.Valued.{Valued}
 use Rattle.evaluation.proofs.Outcomes.{gradient-written}
 use Rattle.multibspline.specs.Numbers.{f0}
 use Rattle.regular_map.specs.Map.{RegularMap}
 use Rattle.regular_map.specs.Checks.{anyStepBad, mapAnswer, fromValuesAnswer, regular}
-use Rattle.rectilinear_map.specs.Map.{RectilinearMap, made, blank}
+use Rattle.rectilinear_map.specs.Map.{RectilinearMap}
 use Rattle.knots.specs.Checks.{gridCheck}
 use Rattle.rectilinear_map.specs.Eval.{gridAnswer, mapChecks, rectilinear}
-use Rattle.capi.specs.Inputs.{lensOf, shapeOf, fourFrom}
-use Rattle.capi.specs.Outputs.{Wrote, Handed}
-use Rattle.capi.specs.Splines.{withSlopes}
-use Rattle.capi.specs.Regular.{stepsOf, regularMap, readyChecks, regularChecks, regularSpline, fitChecks}
-use Rattle.capi.specs.Rectilinear.{rectilinearMap, rectilinearSpline}
-use Rattle.capi.proofs.Lens.{lens-used, four-lens}
+use Rattle.capi_words.specs.Inputs.{lensOf}
+use Rattle.capi_words.specs.Outputs.{Wrote}
+use Rattle.capi_words.specs.Splines.{withSlopes}
+use Rattle.capi_words.specs.Regular.{stepsOf, regularMap, readyChecks, regularChecks, regularSpline, fitChecks}
+use Rattle.capi_words.specs.Rectilinear.{rectilinearMap, rectilinearSpline}
+use Rattle.capi_words.proofs.Lens.{four-lens}
 use Rattle.capi.proofs.Guards.{refused-some, without}
 
 -- ---- what is written only where a call is accepted, on either grid
@@ -66,12 +64,6 @@ module _ (s : Spline) (x slopes : List Float) (few : s .axes ≤ 4) (whole : len
   wrote-gradient {a} w p =
       let same = w .answers ∙ sym sloped in
       record { answers = p .answers ∙ same; leaves = p .leaves ∙ written a (w .gradient) ∙ rw same }
-
--- ---- a regular map, from the parts that the code makes
-
-pub regular-map-is : (dims : List ℕ) (grid : List Float) (linear : Bool) {s : Shape} {starts steps : List Float} → s ≡ shapeOf dims → starts ≡ fourFrom 0 grid → steps ≡ fourFrom (length dims) grid
-    → _≡_ {A = RegularMap} (record { count = length dims; lens = s .dims; starts = starts; steps = steps; linear = linear }) (regularMap dims grid linear)
-regular-map-is dims grid linear e b t = rw (e, b, t)
 
 -- ---- a regular map: the check of the grid's length passes
 
@@ -136,19 +128,7 @@ module _ (dims : List ℕ) (grid : List Float) {k : ℕ} (told : k ≡ firstRefu
   unfolding regularFitChecks fromValuesAnswer
   values-dropped = dropped dims grid told z _
 
--- ---- a rectilinear map: the map that is built of the grid is the one that C hands over
-
-pub handed : (f : Format) (dims : List ℕ) (grid : List Float) (linear : Bool) → {answer : ℕ} {map : RectilinearMap}
-    → BuiltFrom (gridAnswer (length dims) (lensOf dims) grid) (made f (length dims) (lensOf dims) grid linear) blank answer map
-    → Handed (gridAnswer (length dims) (lensOf dims) grid) (rectilinearMap f dims grid linear) answer map
-unfolding gridAnswer made
-handed f dims grid linear w = record {
-  answers = w .answers;
-  map = λ z.
-      let ok = sym (w .answers) ∙ z in
-      let few = usable (length dims) (lensOf dims) (four-lens dims) (prefix-passed (shapeChecks (length dims) (lensOf dims)) _ ok) .at-most-four in
-      w .map ∙ rw (ok, lens-used dims few);
-}
+-- ---- a rectilinear map
 
 module _ (dims : List ℕ) (grid : List Float) {n : ℕ} (told : n ≡ gridAnswer (length dims) (lensOf dims) grid) where
   pub rectilinear-refused : (coefs : ℕ) → (n ≡ 0 → ⊥) → n ≡ firstRefusal (mapChecks (length dims) (lensOf dims) grid coefs)

@@ -1,33 +1,30 @@
 -- A call that is refused before the library is asked, and one check more in a list of checks. Assumes nothing.
 --     n        what the call has answered so far
-use mathlib.Core.Path.{_≡_, refl, sym, ap, subst, _∙_}
+use mathlib.Core.Path.{_≡_, refl, sym, ap, _∙_}
 use mathlib.Core.Bool.{Bool, true, false, cond}
 use mathlib.Core.List.{List, [], _∷_, _++_}
-use Prim.Native.Nat.{ℕ, zero, suc, _*_}
+use Prim.Native.Nat.{ℕ, zero, suc}
 use native.Mathlib.Omega.{arith}
 use lib.Dec.{eqb}
-use lib.ListN.{length, take}
+use lib.ListN.{take}
 use lib.Ieee.{Float}
 use borrow.Author.Tests.{eq-eqb, ne-eqb}
 use Rattle.shape.specs.Shape.{first}
-use Rattle.shape.specs.Checks.{Check, firstRefusal, shapeChecks, lengthCheck, Positive}
+use Rattle.shape.specs.Checks.{Check, firstRefusal, lengthCheck, Positive}
 use Rattle.shape.specs.Sizes.{firstCellAnswer, firstCellNumber, firstCellValue, FirstCellFound}
 use Rattle.shape.specs.Refusal.{refusalNumber}
 use Rattle.shape.specs.declared.answers.Refusal.{Refusal}
 use Rattle.shape.specs.declared.answers.FirstCell.{FirstCell}
 use Rattle.shape.specs.declared.answers.FirstCell.the-variants as FirstCells
 use Rattle.shape.specs.Fit.{Fitted}
-use Rattle.shape.proofs.Accepted.{refused-append, refusal-append, passed-append, accepted-append}
-use Rattle.shape.proofs.Checks.{length-fails, length-passes}
-use Rattle.ledger.proofs.Stages.{refusal-some, none-refuse}
-use Rattle.evaluation.specs.declared.answers.Valued.{Valued}
-use Rattle.evaluation.specs.declared.answers.Valued.the-variants as Values
-use Rattle.evaluation.specs.Spline.{Spline, valuedNumber, valuedValue, oneAnswer, batchAnswer, gradientBatchAnswer}
+use Rattle.shape.proofs.Accepted.{refused-append, passed-append}
+use Rattle.shape.proofs.Checks.{length-fails}
+use Rattle.ledger.proofs.Stages.{refusal-some}
+use Rattle.evaluation.specs.Spline.{Spline, oneAnswer, batchAnswer, gradientBatchAnswer}
 use Rattle.evaluation.specs.Batch.{Batch, ValueBatch, GradientBatch}
-use Rattle.capi.specs.Inputs.{lensOf}
-use Rattle.capi.specs.Outputs.{Wrote}
-use Rattle.capi.specs.Splines.{withSlopes}
-use Rattle.capi.specs.Regular.{readyChecks}
+use Rattle.capi_words.specs.Outputs.{Wrote}
+use Rattle.capi_words.specs.Splines.{withSlopes}
+use Rattle.capi_words.proofs.Words.{some, wrote-nothing}
 
 -- ---- refused
 
@@ -36,17 +33,11 @@ refused-some before after zero e h = absurd (h refl)
 refused-some before after (suc n) e h = sym (refused-append before after n (sym e))
 
 module _ {n : ℕ} (h : n ≡ 0 → ⊥) where
-  some : {k : ℕ} → n ≡ k → eqb k 0 ≡ false
-  some {k} e = ne-eqb k 0 (λ z. h (e ∙ z))
-
-  pub wrote-nothing : {A : Type 0} {expected : ℕ} {value old : A} → n ≡ expected → Wrote expected value old n old
-  wrote-nothing e = let b = some e in record { answers = e; leaves = rw b }
-
   pub fitted-nothing : {A : Type 0} {k : ℕ} {fit left coefs scratch : List A} → n ≡ k → Fitted k fit left coefs scratch k coefs scratch
-  fitted-nothing e = let b = some e in record { answers = refl; coefficients = rw b; leaves = rw b }
+  fitted-nothing e = let b = some h e in record { answers = refl; coefficients = rw b; leaves = rw b }
 
   batch-nothing : {lengths : ℕ} {bad : ℕ → Bool} {step : ℕ → List Float → List Float} {m : ℕ} {out : List Float} → n ≡ lengths → Batch lengths bad step m out n out
-  batch-nothing e = let b = some e in record { answers = rw b e; leaves = rw b }
+  batch-nothing e = let b = some h e in record { answers = rw b e; leaves = rw b }
 
   -- a map whose checks refuse
   module _ (s : Spline) (e : n ≡ firstRefusal (s .checks)) where
@@ -66,7 +57,7 @@ module _ {n : ℕ} (h : n ≡ 0 → ⊥) where
     unfolding oneAnswer
     slopes-not slopes x = refused-some (s .checks ++ lengthCheck (s .axes) slopes) _ n (refused-some (s .checks) (lengthCheck (s .axes) slopes) n e h) h
 
--- ---- a cell, or a value, put where it is asked for
+-- ---- a cell put where it is asked for
 
 module _ {count : ℕ} {lens : List ℕ} {a l : ℕ} {r : FirstCell} {old : ℕ} where
   pub cell-put : {cell : ℕ} → r ≡ FirstCells.At cell → FirstCellFound count lens a l r → Wrote (firstCellAnswer count lens a l) (first (take count lens) a l) old 0 cell
@@ -77,29 +68,6 @@ module _ {count : ℕ} {lens : List ℕ} {a l : ℕ} {r : FirstCell} {old : ℕ}
 
   pub cell-refused : {refusal : Refusal} {n : ℕ} → r ≡ FirstCells.Refused refusal → FirstCellFound count lens a l r → n ≡ refusalNumber refusal → Wrote (firstCellAnswer count lens a l) (first (take count lens) a l) old n old
   cell-refused {refusal} told w e = wrote-nothing (λ z. refusal-some refusal (sym e ∙ z)) (e ∙ sym (ap firstCellNumber told) ∙ w .answers)
-
-module _ {v : Valued} {old : Float} where
-  pub put-accepted : {x : Float} → v ≡ Values.Value x → Wrote (valuedNumber v) (valuedValue v) old 0 x
-  put-accepted {x} told = subst (λ (v : Valued). Wrote (valuedNumber v) (valuedValue v) old 0 x) (sym told) (record { answers = refl; leaves = refl })
-
-  pub put-refused : {refusal : Refusal} {n : ℕ} → v ≡ Values.Refused refusal → n ≡ refusalNumber refusal → Wrote (valuedNumber v) (valuedValue v) old n old
-  put-refused {refusal} told e = wrote-nothing (λ z. refusal-some refusal (sym e ∙ z)) (e ∙ sym (ap valuedNumber told))
-
--- ---- the shape, then the length of a regular grid
-
-module _ (dims : List ℕ) (grid : List Float) where
-  pub ready-shape : (r : Refusal) → refusalNumber r ≡ firstRefusal (shapeChecks (length dims) (lensOf dims)) → refusalNumber r ≡ firstRefusal (readyChecks dims grid)
-  ready-shape r e = refusal-append r (shapeChecks (length dims) (lensOf dims)) (lengthCheck (2 * length dims) (length grid)) e
-
-  module _ (ok : firstRefusal (shapeChecks (length dims) (lensOf dims)) ≡ 0) where
-    after-shape : firstRefusal (readyChecks dims grid) ≡ firstRefusal (lengthCheck (2 * length dims) (length grid))
-    after-shape = accepted-append (length dims) (lensOf dims) ok (lengthCheck (2 * length dims) (length grid))
-
-    pub ready-length : (length grid ≡ 2 * length dims → ⊥) → _≡_ {A = ℕ} 2 (firstRefusal (readyChecks dims grid))
-    ready-length h = length-fails [] (2 * length dims) (length grid) h ∙ sym after-shape
-
-    pub ready-passed : length grid ≡ 2 * length dims → _≡_ {A = ℕ} 0 (firstRefusal (readyChecks dims grid))
-    ready-passed h = sym (after-shape ∙ length-passes [] (2 * length dims) (length grid) h ∙ none-refuse)
 
 -- ---- a buffer of another length than the axis count: the checks of the map, else 2
 

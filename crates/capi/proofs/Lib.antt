@@ -1,3 +1,2 @@
-pub mod Lens
 pub mod Guards
 pub mod Evaluated

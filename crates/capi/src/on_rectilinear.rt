@@ -2,32 +2,21 @@
 ghost use mathlib.Core.Path.{_≡_};
 ghost use lib.ListN.{length};
 ghost use lib.Ieee.{binary64};
-ghost use Rattle.shape.specs.Refusal.{answerNumber};
 ghost use Rattle.evaluation.specs.Axes.{query};
 ghost use Rattle.evaluation.specs.Spline.{oneAnswer};
 ghost use Rattle.evaluation.specs.Batch.{gradientStep, ValueBatch, GradientBatch};
 ghost use Rattle.rectilinear.specs.Fit.{RectilinearFitted};
-ghost use Rattle.rectilinear_map.specs.Map.{mapOf};
-ghost use Rattle.rectilinear_map.specs.Eval.{mapAnswer, gridAnswer};
-ghost use Rattle.capi.specs.Inputs.{lensOf, isOn};
-ghost use Rattle.capi.specs.Outputs.{Wrote, Handed};
-ghost use Rattle.capi.specs.Splines.{withSlopes};
-ghost use Rattle.capi.specs.Rectilinear.{rectilinearMap, rectilinearSpline};
-use crate::inputs::shape_of;
-use crate::outputs::else_mismatch;
-use crate::outputs::number;
-use crate::outputs::put_gradient;
-use crate::outputs::put_value;
-use rectilinear_map::Built;
-use rectilinear_map::MultiBsplineRectilinear;
-
-// The map, once the shape and the length of the grid are found right. Its knots are looked at by the call that asks it.
-fn map_of(dims: &[usize], grid: &[f64], linear: u32) -> Built
-    ensures { λ r. ⌜ Handed (gridAnswer (length (now (dims .entry))) (lensOf (now (dims .entry))) (now (grid .entry))) (rectilinearMap binary64 (now (dims .entry)) (now (grid .entry)) (isOn linear)) (answerNumber (r .answer)) (mapOf (r .map)) ⌝ }
-{
-    let shape = shape_of(dims);
-    MultiBsplineRectilinear::of_grid(shape, grid, linear != 0)
-}
+ghost use Rattle.rectilinear_map.specs.Eval.{mapAnswer};
+ghost use Rattle.capi_words.specs.Inputs.{lensOf, isOn};
+ghost use Rattle.capi_words.specs.Outputs.{Wrote};
+ghost use Rattle.capi_words.specs.Splines.{withSlopes};
+ghost use Rattle.capi_words.specs.Rectilinear.{rectilinearSpline};
+use capi_words::else_mismatch;
+use capi_words::number;
+use capi_words::on_rectilinear::map_of;
+use capi_words::put_gradient;
+use capi_words::put_value;
+use capi_words::shape_of;
 
 #[no_mangle]
 pub extern "C" fn corvezan_rectilinear_fit(

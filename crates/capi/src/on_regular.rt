@@ -3,55 +3,23 @@ ghost use mathlib.Core.Path.{_≡_};
 ghost use lib.ListN.{length};
 ghost use lib.Ieee.{binary64};
 ghost use Rattle.shape.specs.Checks.{firstRefusal};
-ghost use Rattle.shape.specs.Refusal.{answerNumber};
 ghost use Rattle.evaluation.specs.Axes.{query};
 ghost use Rattle.evaluation.specs.Spline.{oneAnswer};
 ghost use Rattle.evaluation.specs.Batch.{gradientStep, ValueBatch, GradientBatch};
 ghost use Rattle.regular.specs.Fit.{RegularFitted};
-ghost use Rattle.regular_map.specs.Map.{mapOf};
-ghost use Rattle.capi.specs.Inputs.{lensOf, isOn};
-ghost use Rattle.capi.specs.Outputs.{Wrote};
-ghost use Rattle.capi.specs.Splines.{withSlopes};
-ghost use Rattle.capi.specs.Regular.{readyChecks, regularChecks, regularMap, regularSpline, FromValues};
-use crate::inputs::four_from;
-use crate::inputs::shape_of;
-use crate::outputs::else_mismatch;
-use crate::outputs::number;
-use crate::outputs::put_gradient;
-use crate::outputs::put_value;
+ghost use Rattle.capi_words.specs.Inputs.{lensOf, isOn};
+ghost use Rattle.capi_words.specs.Outputs.{Wrote};
+ghost use Rattle.capi_words.specs.Splines.{withSlopes};
+ghost use Rattle.capi_words.specs.Regular.{regularChecks, regularSpline, FromValues};
+use capi_words::else_mismatch;
+use capi_words::four_from;
+use capi_words::number;
+use capi_words::on_regular::check_grid;
+use capi_words::on_regular::map_of;
+use capi_words::put_gradient;
+use capi_words::put_value;
+use capi_words::shape_of;
 use regular_map::MultiBsplineRegular;
-use shape::Answer;
-use shape::Refusal;
-
-// The shape, then the length of the grid.
-fn check_grid(dims: &[usize], grid: &[f64]) -> Answer
-    ensures { λ r. ⌜ answerNumber r ≡ firstRefusal (readyChecks (now (dims .entry)) (now (grid .entry))) ⌝ }
-{
-    let shape = shape_of(dims);
-    if let Answer::Refused(refusal) = shape.check() {
-        return Answer::Refused(refusal);
-    }
-    if grid.len() != 2 * dims.len() {
-        return Answer::Refused(Refusal::DimensionMismatch);
-    }
-    Answer::Accepted
-}
-
-fn map_of(dims: &[usize], grid: &[f64], linear: u32) -> MultiBsplineRegular
-    ensures { λ r. ⌜ mapOf r ≡ regularMap (now (dims .entry)) (now (grid .entry)) (isOn linear) ⌝ }
-{
-    let shape = shape_of(dims);
-    let lens = shape.dims;
-    let starts = four_from(grid, 0);
-    let steps = four_from(grid, dims.len());
-    MultiBsplineRegular {
-        count: dims.len(),
-        dims: lens,
-        starts: starts,
-        steps: steps,
-        linearize_extrapolation: linear != 0,
-    }
-}
 
 #[no_mangle]
 pub extern "C" fn corvezan_regular_fit(

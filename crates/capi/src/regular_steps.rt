@@ -2,9 +2,9 @@
 ghost use lib.ListN.{length};
 ghost use lib.Ieee.{binary64};
 ghost use Rattle.stepwise.specs.Regular.{RegularBegun, RegularLineCalled, RegularRan};
-ghost use Rattle.capi.specs.Inputs.{lensOf};
-use crate::inputs::shape_of;
-use crate::outputs::number;
+ghost use Rattle.capi_words.specs.Inputs.{lensOf};
+use capi_words::number;
+use capi_words::shape_of;
 
 #[no_mangle]
 pub extern "C" fn corvezan_regular_begin(

@@ -4,10 +4,10 @@ ghost use lib.ListN.{length, take};
 ghost use Rattle.shape.specs.Shape.{first};
 ghost use Rattle.shape.specs.Checks.{firstRefusal, shapeChecks};
 ghost use Rattle.shape.specs.Sizes.{coeffStorageLen, constructionScratchLen, strideOf, linesOf, firstCellAnswer};
-ghost use Rattle.capi.specs.Inputs.{lensOf};
-ghost use Rattle.capi.specs.Outputs.{Wrote};
-use crate::inputs::shape_of;
-use crate::outputs::number;
+ghost use Rattle.capi_words.specs.Inputs.{lensOf};
+ghost use Rattle.capi_words.specs.Outputs.{Wrote};
+use capi_words::number;
+use capi_words::shape_of;
 use shape::Answer;
 use shape::FirstCell;
 

@@ -2,11 +2,12 @@ use mathlib.Core.Path.{sym, _∙_}
 use denote.Ref.{now}
 use lib.ListN.{length}
 use lib.Ieee.{binary64}
-use Rattle.capi.specs.Inputs.{isOn}
-use Rattle.capi.specs.Rectilinear.{rectilinearSpline}
+use Rattle.capi_words.specs.Inputs.{isOn}
+use Rattle.capi_words.specs.Rectilinear.{rectilinearSpline}
 use native.Mathlib.Omega.{arith}
 use Rattle.rectilinear_map.specs.Eval.{mapAnswer}
-use Rattle.capi.proofs.Guards.{wrote-nothing, slopes-not, slopes-wrote}
+use Rattle.capi_words.proofs.Words.{wrote-nothing}
+use Rattle.capi.proofs.Guards.{slopes-not, slopes-wrote}
 use Rattle.capi.proofs.Evaluated.{rectilinear-refused, rectilinear-few, rectilinear-gradient}
 use borrow.Author.Needs.{needs}
 use Rattle.capi.proofs.on_rectilinear.corvezan_rectilinear_gradient.Statement.{statement}

@@ -2,8 +2,8 @@ use mathlib.Core.Path.{sym, _∙_}
 use denote.Ref.{now}
 use lib.ListN.{length}
 use lib.Ieee.{binary64}
-use Rattle.capi.specs.Inputs.{isOn}
-use Rattle.capi.specs.Rectilinear.{rectilinearSpline}
+use Rattle.capi_words.specs.Inputs.{isOn}
+use Rattle.capi_words.specs.Rectilinear.{rectilinearSpline}
 use Rattle.capi.proofs.Guards.{gradients-not}
 use Rattle.capi.proofs.Evaluated.{rectilinear-refused, rectilinear-gradients}
 use borrow.Author.Needs.{needs}

@@ -2,9 +2,10 @@ use mathlib.Core.Path.{sym, _∙_}
 use denote.Ref.{now}
 use lib.ListN.{length}
 use lib.Ieee.{binary64}
-use Rattle.capi.specs.Inputs.{isOn}
-use Rattle.capi.specs.Rectilinear.{rectilinearSpline}
-use Rattle.capi.proofs.Guards.{wrote-nothing, one-not}
+use Rattle.capi_words.specs.Inputs.{isOn}
+use Rattle.capi_words.specs.Rectilinear.{rectilinearSpline}
+use Rattle.capi_words.proofs.Words.{wrote-nothing}
+use Rattle.capi.proofs.Guards.{one-not}
 use Rattle.capi.proofs.Evaluated.{rectilinear-refused, rectilinear-value}
 use borrow.Author.Needs.{needs}
 use Rattle.capi.proofs.on_rectilinear.corvezan_rectilinear_value.Statement.{statement}

@@ -1,6 +1,6 @@
 use mathlib.Core.Path.{_∙_}
 use denote.Ref.{now}
-use Rattle.capi.specs.Regular.{readyChecks}
+use Rattle.capi_words.specs.Regular.{readyChecks}
 use Rattle.capi.proofs.Guards.{refused-some}
 use Rattle.capi.proofs.Evaluated.{regular-checked}
 use borrow.Author.Needs.{needs}

@@ -1,7 +1,7 @@
 use mathlib.Core.Path.{sym, _∙_}
 use denote.Ref.{now}
 use lib.ListN.{length}
-use Rattle.capi.specs.Regular.{readyChecks, fitChecks}
+use Rattle.capi_words.specs.Regular.{readyChecks, fitChecks}
 use Rattle.capi.proofs.Guards.{refused-some, fitted-nothing}
 use Rattle.capi.proofs.Evaluated.{fit-dropped, values-dropped}
 use borrow.Author.Needs.{needs}

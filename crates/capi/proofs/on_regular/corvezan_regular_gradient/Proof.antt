@@ -1,10 +1,11 @@
 use mathlib.Core.Path.{_∙_}
 use denote.Ref.{now}
 use lib.Ieee.{binary64}
-use Rattle.capi.specs.Inputs.{isOn}
-use Rattle.capi.specs.Regular.{readyChecks, regularSpline}
+use Rattle.capi_words.specs.Inputs.{isOn}
+use Rattle.capi_words.specs.Regular.{readyChecks, regularSpline}
 use native.Mathlib.Omega.{arith}
-use Rattle.capi.proofs.Guards.{refused-some, wrote-nothing, slopes-not, slopes-wrote}
+use Rattle.capi_words.proofs.Words.{wrote-nothing}
+use Rattle.capi.proofs.Guards.{refused-some, slopes-not, slopes-wrote}
 use Rattle.capi.proofs.Evaluated.{at-most-four, regular-gradient}
 use borrow.Author.Needs.{needs}
 use Rattle.capi.proofs.on_regular.corvezan_regular_gradient.Statement.{statement}

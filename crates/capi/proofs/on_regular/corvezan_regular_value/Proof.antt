@@ -1,9 +1,10 @@
 use mathlib.Core.Path.{_∙_}
 use denote.Ref.{now}
 use lib.Ieee.{binary64}
-use Rattle.capi.specs.Inputs.{isOn}
-use Rattle.capi.specs.Regular.{readyChecks, regularSpline}
-use Rattle.capi.proofs.Guards.{refused-some, wrote-nothing, one-not}
+use Rattle.capi_words.specs.Inputs.{isOn}
+use Rattle.capi_words.specs.Regular.{readyChecks, regularSpline}
+use Rattle.capi_words.proofs.Words.{wrote-nothing}
+use Rattle.capi.proofs.Guards.{refused-some, one-not}
 use Rattle.capi.proofs.Evaluated.{regular-value}
 use borrow.Author.Needs.{needs}
 use Rattle.capi.proofs.on_regular.corvezan_regular_value.Statement.{statement}

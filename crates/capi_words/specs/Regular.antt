@@ -1,0 +1,81 @@
+-- A regular map as C hands it over: `dims`, and a grid of a start for each axis and then a step for each axis, which has a check
+-- of its own, for its length. Assumes nothing.
+use mathlib.Core.Path.{_≡_}
+use mathlib.Core.Bool.{Bool}
+use mathlib.Core.List.{List, [], _∷_, _++_}
+use Prim.Native.Nat.{ℕ, _*_}
+use lib.ListN.{length, take}
+use lib.Ieee.{Float, Format}
+use Rattle.shape.specs.Shape.{size}
+use Rattle.shape.specs.Checks.{Check, refuse, firstRefusal, inOrder, shapeChecks, lengthCheck, scratchCheck}
+use Rattle.shape.specs.Fit.{Fitted}
+use Rattle.evaluation.specs.Spline.{Spline}
+use Rattle.regular.specs.Fit.{regularFit, regularScratch}
+use Rattle.regular_map.specs.Map.{RegularMap}
+use Rattle.regular_map.specs.Eval.{refuses, valueAt, partAt}
+use Rattle.regular_map.specs.Checks.{anyStepBad}
+use Rattle.capi_words.specs.Inputs.{lensOf, fourFrom}
+
+-- the steps of the axes
+abbrev pub stepsOf : List ℕ → List Float → List Float
+stepsOf dims grid = fourFrom (length dims) grid
+
+abbrev pub regularMap : List ℕ → List Float → Bool → RegularMap
+regularMap dims grid linear = record {
+  count = length dims;
+  lens = lensOf dims;
+  starts = fourFrom 0 grid;
+  steps = stepsOf dims grid;
+  linear = linear;
+}
+
+-- the shape, then a start and a step for each axis
+abbrev pub readyChecks : List ℕ → List Float → List Check
+readyChecks dims grid = shapeChecks (length dims) (lensOf dims) ++ lengthCheck (2 * length dims) (length grid)
+
+-- what every call that evaluates the map checks: then the coefficients, then the steps
+abbrev pub regularChecks : List ℕ → List Float → ℕ → List Check
+regularChecks dims grid coefs =
+    readyChecks dims grid ++ (lengthCheck (size (take (length dims) (lensOf dims))) coefs ++ refuse 5 (anyStepBad (take (length dims) (stepsOf dims grid))) ∷ [])
+
+abbrev pub regularSpline : Format → List ℕ → List Float → Bool → List Float → Spline
+regularSpline f dims grid linear coeffs = record {
+  axes = length dims;
+  checks = regularChecks dims grid (length coeffs);
+  refuses = refuses f (regularMap dims grid linear);
+  value = valueAt f (regularMap dims grid linear) coeffs;
+  part = partAt f (regularMap dims grid linear) coeffs;
+}
+
+-- ---- the fit with a grid: its checks, with that of the grid's length in its place
+
+abbrev pub fitChecks : List ℕ → List Float → ℕ → ℕ → ℕ → List Check
+fitChecks dims grid samples coefs scratch =
+    let axes = take (length dims) (lensOf dims) in
+    inOrder
+    (record {
+      shape = shapeChecks (length dims) (lensOf dims);
+      grid = lengthCheck (2 * length dims) (length grid);
+      coefs = lengthCheck (size axes) coefs;
+      ledger = [];
+      knots = [];
+      samples = lengthCheck (size axes) samples;
+      scratch = scratchCheck axes scratch;
+      line = [];
+    })
+
+-- the fit, where its checks pass; then the steps are tested
+pub record FromValues (f : Format) (dims : List ℕ) (grid samples coefs scratch : List Float) (answer : ℕ) (coefs′ scratch′ : List Float) : Type 0 where
+  pub answers :
+      answer
+      ≡ firstRefusal (fitChecks dims grid (length samples) (length coefs) (length scratch) ++ refuse 5 (anyStepBad (take (length dims) (stepsOf dims grid))) ∷ [])
+  pub fits :
+      Fitted
+      (firstRefusal (fitChecks dims grid (length samples) (length coefs) (length scratch)))
+      (regularFit f (take (length dims) (lensOf dims)) samples)
+      (regularScratch f (take (length dims) (lensOf dims)) samples scratch)
+      coefs
+      scratch
+      (firstRefusal (fitChecks dims grid (length samples) (length coefs) (length scratch)))
+      coefs′
+      scratch′
