@@ -31,6 +31,9 @@ sampled f ks span =
 unfoldable pub column : List (List Float) → ℕ → List Float
 column rows j = at (getD rows 0 []) j ∷ at (getD rows 1 []) j ∷ at (getD rows 2 []) j ∷ at (getD rows 3 []) j ∷ []
 
+abbrev pub columns : List (List Float) → List (List Float)
+columns rows = column rows 0 ∷ column rows 1 ∷ column rows 2 ∷ column rows 3 ∷ []
+
 -- ---- the derivative, at x, of the cubic through four points: Lagrange's formula
 
 module _ (f : Format) (xs : List Float) (x : Float) where

@@ -5,7 +5,7 @@ ghost use Prim.Native.Nat.{_+_, _<_, _≤_};
 ghost use lib.ListN.{length};
 ghost use lib.Ieee.{binary64};
 ghost use Rattle.rectilinear_weights.specs.Basis.{four};
-ghost use Rattle.rectilinear_weights.specs.Slopes.{spanSamples, sampled as sampledOf, column as columnOf, term as termOf, basisDerivative, derivativeBy, basisSpanWeightDerivatives, thirdDividedDifference, spanWeightThirdDerivatives};
+ghost use Rattle.rectilinear_weights.specs.Slopes.{spanSamples, sampled as sampledOf, columns, term as termOf, basisDerivative, derivativeBy, basisSpanWeightDerivatives, thirdDividedDifference, spanWeightThirdDerivatives};
 use crate::basis::span_knots;
 use crate::basis::weights_between;
 
@@ -18,26 +18,23 @@ fn span_samples(grid: &[f64], span: usize) -> [f64; 4]
     [a, a + h / 3.0, a + (h + h) / 3.0, a + h]
 }
 
-// The four weights at each of the span's samples.
+// The values of each weight at the span's samples. The four samples go through the same operations side by side, which the
+// compiler turns into vector instructions because they end side by side here.
 fn sampled(grid: &[f64], span: usize, xs: [f64; 4]) -> [[f64; 4]; 4]
     requires { ⌜ (4 ≤ length (now grid)) × (span + 1 < length (now grid)) × (xs ≡ spanSamples binary64 (now grid) span) ⌝ }
-    ensures { λ r. ⌜ r ≡ sampledOf binary64 (now (grid .entry)) span ⌝ }
+    ensures { λ r. ⌜ r ≡ columns (sampledOf binary64 (now (grid .entry)) span) ⌝ }
 {
     let u = span_knots(grid, span);
+    let a = weights_between(u, xs[0]);
+    let b = weights_between(u, xs[1]);
+    let c = weights_between(u, xs[2]);
+    let d = weights_between(u, xs[3]);
     [
-        weights_between(u, xs[0]),
-        weights_between(u, xs[1]),
-        weights_between(u, xs[2]),
-        weights_between(u, xs[3]),
+        [a[0], b[0], c[0], d[0]],
+        [a[1], b[1], c[1], d[1]],
+        [a[2], b[2], c[2], d[2]],
+        [a[3], b[3], c[3], d[3]],
     ]
-}
-
-// The values of weight j.
-fn column(values: [[f64; 4]; 4], j: usize) -> [f64; 4]
-    requires { ⌜ j < 4 ⌝ }
-    ensures { λ r. ⌜ r ≡ columnOf values j ⌝ }
-{
-    [values[0][j], values[1][j], values[2][j], values[3][j]]
 }
 
 // The term of xm.
@@ -81,10 +78,10 @@ pub fn basis_span_weight_derivatives(grid: &[f64], span: usize, x: f64) -> [f64;
     let values = sampled(grid, span, xs);
     let ds = basis_derivatives(xs, x);
     [
-        lagrange_derivative(ds, column(values, 0)),
-        lagrange_derivative(ds, column(values, 1)),
-        lagrange_derivative(ds, column(values, 2)),
-        lagrange_derivative(ds, column(values, 3)),
+        lagrange_derivative(ds, values[0]),
+        lagrange_derivative(ds, values[1]),
+        lagrange_derivative(ds, values[2]),
+        lagrange_derivative(ds, values[3]),
     ]
 }
 
@@ -106,9 +103,9 @@ pub fn span_weight_third_derivatives(grid: &[f64], span: usize) -> [f64; 4]
     let xs = span_samples(grid, span);
     let values = sampled(grid, span, xs);
     [
-        6.0 * third_divided_difference(xs, column(values, 0)),
-        6.0 * third_divided_difference(xs, column(values, 1)),
-        6.0 * third_divided_difference(xs, column(values, 2)),
-        6.0 * third_divided_difference(xs, column(values, 3)),
+        6.0 * third_divided_difference(xs, values[0]),
+        6.0 * third_divided_difference(xs, values[1]),
+        6.0 * third_divided_difference(xs, values[2]),
+        6.0 * third_divided_difference(xs, values[3]),
     ]
 }

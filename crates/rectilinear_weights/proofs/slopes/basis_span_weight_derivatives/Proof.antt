@@ -12,8 +12,7 @@ returns c =
     let ds = zero .before .before in
     let values = ds .before in
     rw (zero .lagrange-derivative .ensures, one .lagrange-derivative2 .ensures, two .lagrange-derivative3 .ensures, c .lagrange-derivative4 .ensures)
-    (rw (zero .before .column .ensures, one .before .column2 .ensures, two .before .column3 .ensures, c .before .column4 .ensures)
-    (rw (ds .basis-derivatives .ensures, values .sampled .ensures, values .before .span-samples .ensures)))
+    (rw (ds .basis-derivatives .ensures, values .sampled .ensures, values .before .span-samples .ensures))
 
 pub basis-span-weight-derivatives-spec : {M : Type 1} → statement M
 basis-span-weight-derivatives-spec =

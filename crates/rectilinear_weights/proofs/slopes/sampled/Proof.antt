@@ -1,13 +1,13 @@
 use denote.Ref.{now}
 use lib.Ieee.{binary64}
 use borrow.Author.Needs.{needs}
-use Rattle.rectilinear_weights.specs.Slopes.{sampled}
+use Rattle.rectilinear_weights.specs.Slopes.{sampled, column}
 use Rattle.rectilinear_weights.proofs.Knots.{between-six}
 use Rattle.rectilinear_weights.proofs.slopes.sampled.Statement.{statement}
 use Rattle.rectilinear_weights.proofs.slopes.sampled.Tie as tie
 
 returns : tie.Need-returns
-unfolding sampled
+unfolding sampled column
 returns c =
     let zero = c .before .before .before in
     let k = zero .before in
@@ -21,4 +21,5 @@ pub sampled-spec : {M : Type 1} → statement M
 sampled-spec =
     tie.close
     (tie.spec (λ c κs. search needs) (λ c. search needs) (λ c κs. search needs) (λ c. search needs) (λ c κs. search needs) (λ c. search needs) (λ c κs. search needs) (λ c. search needs) (λ c κs. search needs)
+    (λ c. search needs) (λ c. search needs) (λ c. search needs) (λ c. search needs) (λ c. search needs) (λ c. search needs) (λ c. search needs) (λ c. search needs) (λ c. search needs) (λ c. search needs) (λ c. search needs) (λ c. search needs) (λ c. search needs) (λ c. search needs) (λ c. search needs) (λ c. search needs)
     returns)

@@ -12,8 +12,7 @@ returns c =
     let zero = one .before .before in
     let values = zero .before .before in
     rw (zero .third-divided-difference .ensures, one .third-divided-difference2 .ensures, two .third-divided-difference3 .ensures, c .third-divided-difference4 .ensures)
-    (rw (zero .before .column .ensures, one .before .column2 .ensures, two .before .column3 .ensures, c .before .column4 .ensures)
-    (rw (values .sampled .ensures, values .before .span-samples .ensures)))
+    (rw (values .sampled .ensures, values .before .span-samples .ensures))
 
 pub span-weight-third-derivatives-spec : {M : Type 1} → statement M
 span-weight-third-derivatives-spec =
