@@ -93,6 +93,12 @@ module _ (bad : ℕ → Bool) (step : ℕ → List Float → List Float) (n : �
 
 -- ---- the loop over the blocks
 
+-- steps that do the same to any output
+pub written-same : (step step′ : ℕ → List Float → List Float) (r : ℕ) (out : List Float) → ((k : ℕ) → k < r → (o : List Float) → step k o ≡ step′ k o) → written step r out ≡ written step′ r out
+unfolding written
+written-same step step′ zero out same = refl
+written-same step step′ (suc r) out same = same r (omega arith) _ ∙ ap (step′ r) (written-same step step′ r out (λ k h. same k (omega arith)))
+
 module _ (bad : ℕ → Bool) (step : ℕ → List Float → List Float) where
   -- entries none of which is bad
   before-block : (i : ℕ) → before bad i ≡ i → (r : ℕ) → ((k : ℕ) → k < r → bad (i + k) ≡ false) → before bad (i + r) ≡ i + r
@@ -108,13 +114,6 @@ module _ (bad : ℕ → Bool) (step : ℕ → List Float → List Float) where
   written-block i (suc r) out =
       let z : i + suc r ≡ suc (i + r) = omega arith in
       rw z (ap (step (i + r)) (written-block i r out))
-
-  -- an empty block
-  pub block-none : (start m : ℕ) {out : List Float} → (0 < m → bad start ≡ true) → Block bad step start m out 0 out
-  unfolding written
-  block-none start m h =
-      let z : start + 0 ≡ start = omega arith in
-      record { most = omega arith; good = λ k l. absurd (let q : ⊥ = omega arith in q); stops = λ l. rw z (h l); leaves = refl }
 
   module _ (n : ℕ) {out₀ out out′ : List Float} {i m r : ℕ} (w : Running bad step n out₀ out i) (fits : i + m ≤ n) (b : Block bad step i m out r out′) where
     values-after : out′ ≡ written step (i + r) out₀
