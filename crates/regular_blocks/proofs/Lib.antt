@@ -1,2 +1,4 @@
 pub mod Placing
 pub mod RowsFrom
+pub mod Firsts
+pub mod Axes

@@ -23,13 +23,12 @@ pub record Room (count n start cap m xs firsts sats ts rows : ℕ) : Type 0 wher
   pub in-ts : m ≤ ts
   pub in-rows : 4 * (cap * count) ≤ rows
 
-module _ (f : Format) (map : RegularMap) (xs : List Float) (n start : ℕ) where
-  -- the first coefficients of the entries so far, and that the entry after them is refused
-  pub record Firsts (m a good : ℕ) (firsts : List ℕ) : Type 0 where
-    pub most : good ≤ m
-    pub found : (k : ℕ) → k < good → firstOn f map (query (map .count) xs n (start + k)) a ≡ At (getD firsts k 0)
-    pub refused : good < m → firstOn f map (query (map .count) xs n (start + good)) a ≡ Unrepresentable
+-- the first coefficients of the entries so far, and that the entry after them is refused
+pub record Firsts (f : Format) (map : RegularMap) (xs : List Float) (n start m a good : ℕ) (firsts : List ℕ) : Type 0 where
+  pub most : good ≤ m
+  pub found : (k : ℕ) → k < good → firstOn f map (query (map .count) xs n (start + k)) a ≡ At (getD firsts k 0)
+  pub refused : good < m → firstOn f map (query (map .count) xs n (start + good)) a ≡ Unrepresentable
 
-  -- the rows of the axes so far, `row x b` for axis b of a query x
-  pub record RowsTo (row : List Float → ℕ → List Float) (cap a good : ℕ) (rows : List Float) : Type 0 where
-    pub at : (b k : ℕ) → b < a → k < good → rowAt rows (cap * b + k) ≡ row (query (map .count) xs n (start + k)) b
+-- the rows of the axes so far, `row x b` for axis b of a query x
+pub record RowsTo (row : List Float → ℕ → List Float) (count : ℕ) (xs : List Float) (n start cap a good : ℕ) (rows : List Float) : Type 0 where
+  pub at : (b k : ℕ) → b < a → k < good → rowAt rows (cap * b + k) ≡ row (query count xs n (start + k)) b
