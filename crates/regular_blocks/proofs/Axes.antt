@@ -28,7 +28,7 @@ use Rattle.regular_blocks.specs.First as First
 use Rattle.regular_blocks.specs.Map.{RegularMap}
 use Rattle.regular_blocks.specs.Eval.{weightsAt, slopesAt, locOn, firstOn, weightsOn, slopesOn}
 use Rattle.regular_blocks.specs.Axis.{satOf, Axis, Placed, Places, weightRow, slopeRow, RowsFrom}
-use Rattle.regular_blocks.specs.Block.{Room, Firsts, RowsTo}
+use Rattle.regular_blocks.specs.Block.{Room, FirstsTo, RowsTo}
 use Rattle.regular_blocks.proofs.Firsts.{first-below}
 
 -- ---- the axes of an accepted map
@@ -78,13 +78,13 @@ zero-next firsts k w h j g = elim (eq-or-lt-of-le (let q : j ≤ k = omega arith
 -- ---- one axis more
 
 module _ (f : Format) (map : RegularMap) (xs : List Float) (n start : ℕ) where
-  pub firsts-start : {m : ℕ} {firsts : List ℕ} → ((k : ℕ) → k < m → getD firsts k 0 ≡ 0) → Firsts f map xs n start m 0 m firsts
+  pub firsts-start : {m : ℕ} {firsts : List ℕ} → ((k : ℕ) → k < m → getD firsts k 0 ≡ 0) → FirstsTo f map xs n start m 0 m firsts
   unfolding firstOn
   firsts-start zeros =
       record { most = omega arith; found = λ k h. ap First.At (sym (zeros k h)); refused = λ h. absurd (let q : ⊥ = omega arith in q) }
 
   -- no entry yet has moved past the map
-  pub firsts-small : {ss : List ℕ} {m a good : ℕ} {firsts : List ℕ} → Ready (map .count) (map .lens) ss → a ≤ map .count → Firsts f map xs n start m a good firsts → (k : ℕ) → k < good → getD firsts k 0 ≤ 16777216
+  pub firsts-small : {ss : List ℕ} {m a good : ℕ} {firsts : List ℕ} → Ready (map .count) (map .lens) ss → a ≤ map .count → FirstsTo f map xs n start m a good firsts → (k : ℕ) → k < good → getD firsts k 0 ≤ 16777216
   firsts-small {ss} {m} {a} {good} {firsts} r h w k g =
       below-small (map .count) (map .lens) (r .four) (r .shape) a _ (first-below f map (query (map .count) xs n (start + k)) (r .four) (r .shape) a _ h (w .found k g))
 
@@ -102,7 +102,7 @@ module _ (f : Format) (map : RegularMap) (xs : List Float) (n start : ℕ) where
 
     module _ {s good r : ℕ} {firsts firsts′ sats : List ℕ} {ts : List Float}
         (p : Places f (getD (map .lens) a 0) (getD (map .starts) a nan) (getD (map .steps) a nan) s xs (a * n + start) good firsts r firsts′ sats ts) where
-      pub firsts-next : {m : ℕ} → s ≡ strideOf (map .count) (map .lens) a → Firsts f map xs n start m a good firsts → Firsts f map xs n start m (a + 1) r firsts′
+      pub firsts-next : {m : ℕ} → s ≡ strideOf (map .count) (map .lens) a → FirstsTo f map xs n start m a good firsts → FirstsTo f map xs n start m (a + 1) r firsts′
       unfolding firstOn
       firsts-next {m} same w =
           record {
@@ -148,7 +148,7 @@ module _ (f : Format) (map : RegularMap) (xs : List Float) (n start m : ℕ) (fi
     pub length-firsts : length firsts ≡ length firsts₀
     pub length-sats : length sats ≡ length sats₀
     pub length-ts : length ts ≡ length ts₀
-    pub so-far : Firsts f map xs n start m a good firsts
+    pub so-far : FirstsTo f map xs n start m a good firsts
 
   pub weighing-start : ((k : ℕ) → k < m → getD firsts₀ k 0 ≡ 0) → Weighing firsts₀ sats₀ ts₀ m 0
   weighing-start zeros = record { most = omega arith; length-firsts = refl; length-sats = refl; length-ts = refl; so-far = firsts-start f map xs n start zeros }
@@ -176,7 +176,7 @@ module _ (f : Format) (map : RegularMap) (xs : List Float) (n start m : ℕ) (fi
           so-far = firsts-next f map xs n start few a h p (stride-at (map .count) (map .lens) a (r .strides-are) (omega (arith, few))) (w .so-far);
         }
 
-  pub weighing-done : {firsts sats : List ℕ} {ts : List Float} {good a : ℕ} → Weighing firsts sats ts good a → map .count ≤ a → Firsts f map xs n start m (map .count) good firsts
+  pub weighing-done : {firsts sats : List ℕ} {ts : List Float} {good a : ℕ} → Weighing firsts sats ts good a → map .count ≤ a → FirstsTo f map xs n start m (map .count) good firsts
   weighing-done {firsts} {sats} {ts} {good} {a} w h = let e : a ≡ map .count = omega (arith, w .most) in rw e at (w .so-far)
 
 module _ {row : List Float → ℕ → List Float} {count : ℕ} {xs : List Float} {n start cap : ℕ} {good : ℕ} {rows : List Float} where
@@ -185,3 +185,22 @@ module _ {row : List Float → ℕ → List Float} {count : ℕ} {xs : List Floa
 
   pub all-rows : {a : ℕ} → RowsTo row count xs n start cap a good rows → a ≤ count → count ≤ a → RowsTo row count xs n start cap count good rows
   all-rows {a} w h g = let e : a ≡ count = omega arith in rw e at w
+
+-- ---- one axis, and no more
+
+module _ (f : Format) (map : RegularMap) (xs : List Float) (n start : ℕ) {ss : List ℕ} (ready : Ready (map .count) (map .lens) ss) {m good : ℕ} {firsts firsts′ sats : List ℕ} {ts : List Float}
+    (p : Places f (getD (map .lens) 0 0) (getD (map .starts) 0 nan) (getD (map .steps) 0 nan) (getD ss 0 0) xs start m firsts good firsts′ sats ts) where
+  at-start : Places f (getD (map .lens) 0 0) (getD (map .starts) 0 nan) (getD (map .steps) 0 nan) (getD ss 0 0) xs (0 * n + start) m firsts good firsts′ sats ts
+  at-start = let e : 0 * n + start ≡ start = omega arith in rw e p
+
+  pub only-firsts : ((k : ℕ) → k < m → getD firsts k 0 ≡ 0) → FirstsTo f map xs n start m 1 good firsts′
+  only-firsts zeros =
+      let u = ready .shape in
+      firsts-next f map xs n start (u .at-most-four) 0 (omega (arith, u .some-axis)) at-start (stride-at (map .count) (map .lens) 0 (ready .strides-are) (omega arith)) (firsts-start f map xs n start zeros)
+
+  pub only-slopes : {cap : ℕ} {rows rows′ : List Float} → m ≤ cap → RowsFrom (slopeRow f (map .linear) (getD (map .steps) 0 nan) sats ts) 0 good rows rows′
+      → RowsTo (slopesOn f map) (map .count) xs n start cap 1 good rows′
+  only-slopes {cap} {rows} most new =
+      let u = ready .shape in
+      let e : cap * 0 ≡ 0 = omega arith in
+      slopes-next f map xs n start (u .at-most-four) 0 (omega (arith, u .some-axis)) at-start {rows = rows} most no-rows (rw e new)

@@ -24,7 +24,7 @@ pub record Room (count n start cap m xs firsts sats ts rows : ℕ) : Type 0 wher
   pub in-rows : 4 * (cap * count) ≤ rows
 
 -- the first coefficients of the entries so far, and that the entry after them is refused
-pub record Firsts (f : Format) (map : RegularMap) (xs : List Float) (n start m a good : ℕ) (firsts : List ℕ) : Type 0 where
+pub record FirstsTo (f : Format) (map : RegularMap) (xs : List Float) (n start m a good : ℕ) (firsts : List ℕ) : Type 0 where
   pub most : good ≤ m
   pub found : (k : ℕ) → k < good → firstOn f map (query (map .count) xs n (start + k)) a ≡ At (getD firsts k 0)
   pub refused : good < m → firstOn f map (query (map .count) xs n (start + good)) a ≡ Unrepresentable

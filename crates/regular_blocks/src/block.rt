@@ -5,7 +5,7 @@ ghost use lib.ListN.{length, getD};
 ghost use lib.Ieee.{binary64};
 ghost use Rattle.evaluation.specs.Axes.{Ready};
 ghost use Rattle.regular_blocks.specs.Eval.{weightsOn, slopesOn};
-ghost use Rattle.regular_blocks.specs.Block.{Room, Firsts, RowsTo};
+ghost use Rattle.regular_blocks.specs.Block.{Room, FirstsTo, RowsTo};
 use crate::axis::slope_axis;
 use crate::axis::weigh_axis;
 use crate::axis::weigh_axis_both;
@@ -44,7 +44,7 @@ fn weigh_axes(
 ) -> usize
     requires { ⌜ Ready count (now dims) (now strides) × Room count n from cap m (length (now xs)) (length (now firsts)) (length (now sats)) (length (now ts)) (length (now rows)) ⌝ }
     requires { ⌜ ((k : ℕ) → k < m → getD (now firsts) k 0 ≡ 0) ⌝ }
-    ensures { λ r. ⌜ Firsts binary64 (record { count = count; lens = now (dims .entry); starts = now (starts .entry); steps = now (steps .entry); linear = linear }) (now (xs .entry)) n from m count r (now (firsts .exit)) ⌝ }
+    ensures { λ r. ⌜ FirstsTo binary64 (record { count = count; lens = now (dims .entry); starts = now (starts .entry); steps = now (steps .entry); linear = linear }) (now (xs .entry)) n from m count r (now (firsts .exit)) ⌝ }
     ensures { λ r. ⌜ RowsTo (weightsOn binary64 (record { count = count; lens = now (dims .entry); starts = now (starts .entry); steps = now (steps .entry); linear = linear })) count (now (xs .entry)) n from cap count r (now (rows .exit)) ⌝ }
 {
     let mut good = m;
@@ -68,4 +68,92 @@ fn weigh_axes(
         a += 1;
     }
     good
+}
+
+// The same, with the slopes of the axes too.
+fn weigh_axes_both(
+    count: usize,
+    dims: &[usize; 4],
+    starts: &[f64; 4],
+    steps: &[f64; 4],
+    linear: bool,
+    strides: &[usize; 4],
+    xs: &[f64],
+    n: usize,
+    from: usize,
+    cap: usize,
+    m: usize,
+    firsts: &mut [usize],
+    sats: &mut [usize],
+    ts: &mut [f64],
+    rows: &mut [f64],
+    slopes: &mut [f64],
+) -> usize
+    requires { ⌜ Ready count (now dims) (now strides) × Room count n from cap m (length (now xs)) (length (now firsts)) (length (now sats)) (length (now ts)) (length (now rows)) × (length (now slopes) ≡ length (now rows)) ⌝ }
+    requires { ⌜ ((k : ℕ) → k < m → getD (now firsts) k 0 ≡ 0) ⌝ }
+    ensures { λ r. ⌜ FirstsTo binary64 (record { count = count; lens = now (dims .entry); starts = now (starts .entry); steps = now (steps .entry); linear = linear }) (now (xs .entry)) n from m count r (now (firsts .exit)) ⌝ }
+    ensures { λ r. ⌜ RowsTo (weightsOn binary64 (record { count = count; lens = now (dims .entry); starts = now (starts .entry); steps = now (steps .entry); linear = linear })) count (now (xs .entry)) n from cap count r (now (rows .exit)) ⌝ }
+    ensures { λ r. ⌜ RowsTo (slopesOn binary64 (record { count = count; lens = now (dims .entry); starts = now (starts .entry); steps = now (steps .entry); linear = linear })) count (now (xs .entry)) n from cap count r (now (slopes .exit)) ⌝ }
+{
+    let mut good = m;
+    let mut a: usize = 0;
+    while a < count {
+        good = weigh_axis_both(
+            dims[a],
+            starts[a],
+            steps[a],
+            linear,
+            strides[a],
+            xs,
+            a * n + from,
+            good,
+            cap * a,
+            firsts,
+            sats,
+            ts,
+            rows,
+            slopes,
+        );
+        a += 1;
+    }
+    good
+}
+
+// The slopes alone, on a map of one axis.
+fn slope_only_axis(
+    dims: &[usize; 4],
+    starts: &[f64; 4],
+    steps: &[f64; 4],
+    linear: bool,
+    strides: &[usize; 4],
+    xs: &[f64],
+    n: usize,
+    from: usize,
+    cap: usize,
+    m: usize,
+    firsts: &mut [usize],
+    sats: &mut [usize],
+    ts: &mut [f64],
+    slopes: &mut [f64],
+) -> usize
+    requires { ⌜ Ready 1 (now dims) (now strides) × Room 1 n from cap m (length (now xs)) (length (now firsts)) (length (now sats)) (length (now ts)) (length (now slopes)) ⌝ }
+    requires { ⌜ ((k : ℕ) → k < m → getD (now firsts) k 0 ≡ 0) ⌝ }
+    ensures { λ r. ⌜ FirstsTo binary64 (record { count = 1; lens = now (dims .entry); starts = now (starts .entry); steps = now (steps .entry); linear = linear }) (now (xs .entry)) n from m 1 r (now (firsts .exit)) ⌝ }
+    ensures { λ r. ⌜ RowsTo (slopesOn binary64 (record { count = 1; lens = now (dims .entry); starts = now (starts .entry); steps = now (steps .entry); linear = linear })) 1 (now (xs .entry)) n from cap 1 r (now (slopes .exit)) ⌝ }
+{
+    slope_axis(
+        dims[0],
+        starts[0],
+        steps[0],
+        linear,
+        strides[0],
+        xs,
+        from,
+        m,
+        0,
+        firsts,
+        sats,
+        ts,
+        slopes,
+    )
 }
