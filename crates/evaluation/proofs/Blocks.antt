@@ -3,13 +3,15 @@ use mathlib.Core.Path.{_≡_, refl, sym, ap, _∙_}
 use mathlib.Core.Logic.{_≢_}
 use mathlib.Core.List.{List, [], _∷_}
 use Prim.Native.Nat.{ℕ, _+_, _*_, _≤_, _<_}
+use native.Mathlib.Numerals.{add-one}
 use native.Mathlib.Omega.{arith}
-use lib.ListN.{length, getD}
+use lib.ListN.{length, getD, set, length-set}
 use lib.Ieee.{Float, nan}
 use Rattle.shape.specs.Cells.{put, from}
 use Rattle.shape.proofs.Cells.{length-put, from-in, put-other}
 use Rattle.interp_math.proofs.Four.{four}
-use Rattle.evaluation.specs.Block.{rowAt, withRow}
+use Rattle.evaluation.specs.Batch.{written}
+use Rattle.evaluation.specs.Block.{rowAt, withRow, Firsts}
 
 -- ---- one row replaced
 
@@ -31,3 +33,34 @@ module _ (rows : List Float) (j : ℕ) (row : List Float) where
   row-other k other =
       let cell : (q : ℕ) → ((p : ℕ) → p < 4 → q ≢ 4 * j + p) → getD (put (from (4 * j)) (λ p. getD row p nan) 4 rows) q nan ≡ getD rows q nan = λ q away. put-other (from (4 * j)) (λ p. getD row p nan) 4 rows q nan away in
       rw (cell (4 * k) (λ p h z. omega arith), cell (4 * k + 1) (λ p h z. omega arith), cell (4 * k + 2) (λ p h z. omega arith), cell (4 * k + 3) (λ p h z. omega arith))
+
+-- ---- the first coefficients
+
+pub firsts-less : {firsts : List ℕ} {m r c : ℕ} (r′ : ℕ) → r′ ≤ r → Firsts firsts m r c → Firsts firsts m r′ c
+firsts-less r′ h w = record { within = λ k l. omega (arith, w .within k l, h) }
+
+-- ---- the loop over the entries of a block
+
+pub record Writing (step : ℕ → List Float → List Float) (m : ℕ) (out₀ out : List Float) (k : ℕ) : Type 0 where
+  pub most : k ≤ m
+  pub length-out : length out ≡ length out₀
+  pub values : out ≡ written step k out₀
+
+module _ {step : ℕ → List Float → List Float} {m : ℕ} {out₀ : List Float} where
+  pub writing-start : Writing step m out₀ out₀ 0
+  unfolding written
+  writing-start = record { most = omega arith; length-out = refl; values = refl }
+
+  pub writing-next : {out out′ : List Float} {k : ℕ} → Writing step m out₀ out k → k < m → length out′ ≡ length out → out′ ≡ step k out → Writing step m out₀ out′ (k + 1)
+  unfolding written
+  writing-next {out} {out′} {k} w h len e = record { most = omega arith; length-out = len ∙ w .length-out; values = rw (add-one k) (e ∙ ap (step k) (w .values)) }
+
+  pub writing-done : {out : List Float} {k : ℕ} → Writing step m out₀ out k → m ≤ k → out ≡ written step m out₀
+  writing-done {out} {k} w h =
+      let all : k ≡ m = omega (arith, w .most) in
+      rw all at (w .values)
+
+-- one number an entry
+pub writing-set : (start : ℕ) (v : ℕ → Float) {m : ℕ} {out₀ out : List Float} {k : ℕ} {x : Float} → Writing (λ k o. set o (start + k) (v k)) m out₀ out k → k < m → x ≡ v k
+    → Writing (λ k o. set o (start + k) (v k)) m out₀ (set out (start + k) x) (k + 1)
+writing-set start v {m} {out₀} {out} {k} {x} w h e = writing-next w h (length-set out (start + k) x) (ap (set out (start + k)) e)

@@ -4,6 +4,7 @@ mod block;
 mod in_use;
 mod places;
 mod sums;
+mod values;
 
 pub use answers::Gradient;
 pub use answers::Valued;
