@@ -1,17 +1,20 @@
 -- The rows of a block. Assumes nothing.
 use mathlib.Core.Path.{_≡_, refl, sym, ap, _∙_}
 use mathlib.Core.Logic.{_≢_}
-use mathlib.Core.List.{List, [], _∷_}
-use Prim.Native.Nat.{ℕ, _+_, _*_, _≤_, _<_}
+use mathlib.Core.List.{List, [], _∷_, _++_}
+use Prim.Native.Nat.{ℕ, zero, suc, _+_, _*_, _≤_, _<_}
 use native.Mathlib.Numerals.{add-one}
 use native.Mathlib.Omega.{arith}
-use lib.ListN.{length, getD, set, length-set}
-use lib.Ieee.{Float, nan}
+use lib.ListN.{length, getD, set, length-set, List·getD-append}
+use lib.Ieee.{Float, nan, Format}
 use Rattle.shape.specs.Cells.{put, from}
 use Rattle.shape.proofs.Cells.{length-put, from-in, put-other}
+use Rattle.interp_math.specs.Sum.{summed}
 use Rattle.interp_math.proofs.Four.{four}
+use Rattle.interp_math.proofs.Sums.{summed-ext}
 use Rattle.evaluation.specs.Batch.{written}
 use Rattle.evaluation.specs.Block.{rowAt, withRow, Firsts}
+use Rattle.evaluation.proofs.Batches.{written-same}
 
 -- ---- one row replaced
 
@@ -64,3 +67,26 @@ module _ {step : ℕ → List Float → List Float} {m : ℕ} {out₀ : List Flo
 pub writing-set : (start : ℕ) (v : ℕ → Float) {m : ℕ} {out₀ out : List Float} {k : ℕ} {x : Float} → Writing (λ k o. set o (start + k) (v k)) m out₀ out k → k < m → x ≡ v k
     → Writing (λ k o. set o (start + k) (v k)) m out₀ (set out (start + k) x) (k + 1)
 writing-set start v {m} {out₀} {out} {k} {x} w h e = writing-next w h (length-set out (start + k) x) (ap (set out (start + k)) e)
+
+-- ---- a sum looks at the strides and weights of the axes in use alone
+
+-- the first four of a list
+abbrev pub fourOf : List ℕ → List ℕ
+fourOf xs = getD xs 0 0 ∷ getD xs 1 0 ∷ getD xs 2 0 ∷ getD xs 3 0 ∷ []
+
+four-at : (xs : List ℕ) (l : ℕ) → l < 4 → getD (fourOf xs) l 0 ≡ getD xs l 0
+four-at xs zero h = refl
+four-at xs (suc zero) h = refl
+four-at xs (suc (suc zero)) h = refl
+four-at xs (suc (suc (suc zero))) h = refl
+four-at xs (suc (suc (suc (suc l)))) h = absurd (omega (arith, h))
+
+module _ (f : Format) (coefs : List Float) (strides ss ts : List ℕ) (j : ℕ) (e : fourOf strides ≡ ss ++ ts) (few : j ≤ length ss) (most : j ≤ 4) where
+  sum-by : (ws ws′ : List (List Float)) (first : ℕ) → ((l : ℕ) → l < j → getD ws l [] ≡ getD ws′ l []) → summed f coefs ss ws j first ≡ summed f coefs strides ws′ j first
+  sum-by ws ws′ first same =
+      summed-ext f coefs ss strides ws ws′ j first
+      (λ l h. sym (List·getD-append ss ts 0 l (omega arith)) ∙ sym (ap (λ (xs : List ℕ). getD xs l 0) e) ∙ four-at strides l (omega arith)) same
+
+  pub values-by : (ws ws′ : ℕ → List (List Float)) (first : ℕ → ℕ) (start m : ℕ) (out : List Float) → ((k l : ℕ) → l < j → getD (ws k) l [] ≡ getD (ws′ k) l [])
+      → written (λ k o. set o (start + k) (summed f coefs ss (ws k) j (first k))) m out ≡ written (λ k o. set o (start + k) (summed f coefs strides (ws′ k) j (first k))) m out
+  values-by ws ws′ first start m out same = written-same _ _ m out (λ k h o. ap (set o (start + k)) (sum-by (ws k) (ws′ k) (first k) (same k)))

@@ -17,3 +17,4 @@ pub use places::put_parts;
 pub use places::query;
 pub use sums::gradient_from;
 pub use sums::strides_of;
+pub use values::put_values;
