@@ -1,64 +1,43 @@
 -- A block of queries, axis by axis: the first of the coefficients that count for each, and its rows. For every format. Assumes
 -- nothing.
 use mathlib.Core.Path.{_≡_, refl, sym, ap, _∙_}
-use mathlib.Core.Logic.{_≢_, _⊎_, inl, inr}
-use mathlib.Core.Bool.{Bool}
+use mathlib.Core.Logic.{_⊎_, inl, inr}
 use mathlib.Core.List.{List}
 use Prim.Native.Nat.{ℕ, zero, suc, _+_, _*_, _≤_, _<_}
-use native.Mathlib.Nat.{eq-or-lt-of-le, mul-le-mul-left, mul-le-mul-right, mul-comm}
+use native.Mathlib.Nat.{eq-or-lt-of-le, mul-le-mul-left, mul-le-mul-right}
 use native.Mathlib.Omega.{arith}
 use native.Mathlib.Numerals.{add-one}
-use lib.ListN.{length, getD, set, take, drop}
+use lib.ListN.{length, getD, set, take}
 use lib.Seq.{getD-set-same, getD-set-other}
 use lib.Ieee.{Float, nan, Format}
-use Rattle.shape.specs.Shape.{product, size, points, stride}
+use Rattle.shape.specs.Shape.{stride}
 use Rattle.shape.specs.Sizes.{strideOf}
-use Rattle.shape.specs.Usable.{Usable}
-use Rattle.shape.proofs.Accepted.{axis-small, usable-accepted, stride-is, points-are, axes-are}
-use Rattle.shape.proofs.BaseIndex.{from-axis}
+use Rattle.shape.proofs.Accepted.{room, axis-small, usable-accepted, stride-is, points-are}
 use Rattle.regular_weights.specs.Place.{getLoc}
 use Rattle.regular_weights.specs.declared.place.Loc.{Loc}
-use Rattle.regular_weights.specs.declared.place.Loc.the-variants.{At, Unrepresentable}
 use Rattle.evaluation.specs.Axes.{query, Ready}
-use Rattle.evaluation.specs.Block.{rowAt}
 use Rattle.evaluation.proofs.Entries.{query-at, stride-at}
-use Rattle.evaluation.proofs.Reach.{Below, below-start, below-next, below-small}
-use Rattle.regular_blocks.specs.First.{First}
+use Rattle.evaluation.proofs.Reach.{below-small}
 use Rattle.regular_blocks.specs.First as First
 use Rattle.regular_blocks.specs.Map.{RegularMap}
-use Rattle.regular_blocks.specs.Eval.{weightsAt, slopesAt, locOn, firstOn, weightsOn, slopesOn}
-use Rattle.regular_blocks.specs.Axis.{satOf, Axis, Placed, Places, weightRow, slopeRow, RowsFrom}
+use Rattle.regular_blocks.specs.Eval.{locOn, firstOn, weightsOn, slopesOn}
+use Rattle.regular_blocks.specs.Axis.{Axis, Places, weightRow, slopeRow, RowsFrom}
 use Rattle.regular_blocks.specs.Block.{Room, FirstsTo, RowsTo}
 use Rattle.regular_blocks.proofs.Firsts.{first-below}
 
 -- ---- the axes of an accepted map
 
-module _ (count : ℕ) (lens : List ℕ) (four : length lens ≡ 4) (u : Usable count lens) where
-  -- whatever the axes before: origin 0 is always within
-  below-zero : (a : ℕ) → a ≤ count → Below count lens a 0
-  below-zero zero h = below-start count lens four u
-  below-zero (suc a) h =
-      let small = axis-small count lens four u a (omega arith) in
-      let e : 0 + 0 * strideOf count lens a ≡ 0 = omega arith in
-      rw e at (rw (add-one a) at (below-next count lens four u a 0 0 (strideOf count lens a) (omega arith) (below-zero a (omega arith)) refl (omega (arith, small .0))))
-
-  axis-cells : (a : ℕ) → a < count → getD lens a 0 * strideOf count lens a ≤ 16777216
-  axis-cells a h =
-      let dims = take count lens in
-      let ok = usable-accepted count lens four u in
-      let cells : product (drop a dims) ≡ points dims a * stride dims a = from-axis dims a (rw (axes-are count lens four u) h) in
-      rw (← points-are count lens four u a h, stride-is count lens ok a h) (omega (arith, cells, below-zero a (omega arith), u .few-points))
-
 pub axis-ready : {count : ℕ} {lens ss : List ℕ} (a : ℕ) → Ready count lens ss → a < count → Axis (getD lens a 0) (getD ss a 0)
 axis-ready {count} {lens} {ss} a r h =
-    let small = axis-small count lens (r .four) (r .shape) a h in
-    record {
-      four = small .0;
-      few = small .1;
-      cells = rw (stride-at count lens a (r .strides-are) (omega (arith, r .shape .at-most-four))) (axis-cells count lens (r .four) (r .shape) a h);
-    }
+    let u = r .shape in
+    let small = axis-small count lens (r .four) u a h in
+    let same : getD ss a 0 ≡ stride (take count lens) a = stride-at count lens a (r .strides-are) (omega (arith, u .at-most-four)) ∙ stride-is count lens (usable-accepted count lens (r .four) u) a h in
+    record { four = small .0; few = small .1; cells = rw (same, ← points-are count lens (r .four) u a h) (room count lens (r .four) u a h .row-small) }
 
 -- ---- what is lent is long enough
+
+pub room-firsts : {count n start cap m xs firsts firsts′ sats ts rows : ℕ} → firsts′ ≡ firsts → Room count n start cap m xs firsts sats ts rows → Room count n start cap m xs firsts′ sats ts rows
+room-firsts e w = rw e w
 
 module _ {count n start cap m xs firsts sats ts rows : ℕ} (w : Room count n start cap m xs firsts sats ts rows) (a good : ℕ) (h : a < count) (k : good ≤ m) where
   pub axis-coordinates : a * n + start + good ≤ xs

@@ -1,14 +1,19 @@
 // A block of queries on a regular map, of coordinates that stand axis after axis: query `from` and those after it, of n.
 ghost use mathlib.Core.Path.{_≡_};
 ghost use Prim.Native.Nat.{ℕ, _+_, _*_, _≤_, _<_};
-ghost use lib.ListN.{length, getD};
+ghost use lib.ListN.{length, getD, take};
 ghost use lib.Ieee.{binary64};
+ghost use Rattle.shape.specs.Shape.{size};
 ghost use Rattle.evaluation.specs.Axes.{Ready};
+ghost use Rattle.evaluation.specs.Batch.{badAt, valueStep, gradientStep};
+ghost use Rattle.evaluation.specs.Block.{Block};
 ghost use Rattle.regular_blocks.specs.Eval.{weightsOn, slopesOn};
+ghost use Rattle.regular_blocks.specs.Checks.{regular};
 ghost use Rattle.regular_blocks.specs.Block.{Room, FirstsTo, RowsTo};
 use crate::axis::slope_axis;
 use crate::axis::weigh_axis;
 use crate::axis::weigh_axis_both;
+use evaluation::put_values;
 
 // Before any axis is looked at.
 fn zero_firsts(m: usize, firsts: &mut [usize])
@@ -156,4 +161,50 @@ fn slope_only_axis(
         ts,
         slopes,
     )
+}
+
+// The values of the m entries from `from` on, up to the first that is refused: how many come before it.
+pub fn values_block(
+    count: usize,
+    dims: &[usize; 4],
+    starts: &[f64; 4],
+    steps: &[f64; 4],
+    linear: bool,
+    strides: &[usize; 4],
+    coeffs: &[f64],
+    xs: &[f64],
+    n: usize,
+    from: usize,
+    cap: usize,
+    m: usize,
+    firsts: &mut [usize],
+    sats: &mut [usize],
+    ts: &mut [f64],
+    rows: &mut [f64],
+    out: &mut [f64],
+) -> usize
+    requires { ⌜ Ready count (now dims) (now strides) × (length (now coeffs) ≡ size (take count (now dims))) × (n ≤ length (now out)) ⌝ }
+    requires { ⌜ Room count n from cap m (length (now xs)) (length (now firsts)) (length (now sats)) (length (now ts)) (length (now rows)) ⌝ }
+    ensures { λ r. ⌜ Block (badAt (regular binary64 (record { count = count; lens = now (dims .entry); starts = now (starts .entry); steps = now (steps .entry); linear = linear }) (now (coeffs .entry))) (now (xs .entry)) n) (valueStep (regular binary64 (record { count = count; lens = now (dims .entry); starts = now (starts .entry); steps = now (steps .entry); linear = linear }) (now (coeffs .entry))) (now (xs .entry)) n) from m (now (out .entry)) r (now (out .exit)) ⌝ }
+{
+    zero_firsts(m, firsts);
+    let good = weigh_axes(
+        count,
+        dims,
+        starts,
+        steps,
+        linear,
+        strides,
+        xs,
+        n,
+        from,
+        cap,
+        m,
+        firsts,
+        sats,
+        ts,
+        rows,
+    );
+    put_values(count, strides, coeffs, firsts, rows, cap, from, good, out);
+    good
 }
