@@ -3,3 +3,6 @@
 mod axis;
 mod block;
 mod places;
+
+pub use block::gradients_block;
+pub use block::values_block;
