@@ -19,8 +19,8 @@ use Rattle.evaluation.specs.Batch.{badAt, valueStep, gradientStep, ValueBatch, 
 use Rattle.evaluation.specs.declared.answers.Valued.{Valued}
 use Rattle.evaluation.proofs.Outcomes.{gradient-written}
 use Rattle.multibspline.specs.Numbers.{f0}
-use Rattle.regular_map.specs.Map.{RegularMap}
-use Rattle.regular_map.specs.Checks.{anyStepBad, mapAnswer, fromValuesAnswer, regular}
+use Rattle.regular_blocks.specs.Map.{RegularMap}
+use Rattle.regular_blocks.specs.Checks.{anyStepBad, mapAnswer, fromValuesAnswer, regular}
 use Rattle.rectilinear_map.specs.Map.{RectilinearMap, made, blank}
 use Rattle.knots.specs.Checks.{gridCheck}
 use Rattle.rectilinear_map.specs.Eval.{gridAnswer, mapChecks, rectilinear}

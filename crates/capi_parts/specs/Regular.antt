@@ -11,9 +11,9 @@ use Rattle.shape.specs.Checks.{Check, refuse, firstRefusal, inOrder, shapeCheck
 use Rattle.shape.specs.Fit.{Fitted}
 use Rattle.evaluation.specs.Spline.{Spline}
 use Rattle.regular.specs.Fit.{regularFit, regularScratch}
-use Rattle.regular_map.specs.Map.{RegularMap}
-use Rattle.regular_map.specs.Eval.{refuses, valueAt, partAt}
-use Rattle.regular_map.specs.Checks.{anyStepBad}
+use Rattle.regular_blocks.specs.Map.{RegularMap}
+use Rattle.regular_blocks.specs.Eval.{refuses, valueAt, partAt}
+use Rattle.regular_blocks.specs.Checks.{anyStepBad}
 use Rattle.capi_parts.specs.Inputs.{lensOf, fourFrom}
 
 -- the steps of the axes

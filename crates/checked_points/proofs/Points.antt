@@ -28,8 +28,8 @@ use Rattle.regular_weights.specs.Weights.{cubicBsplineWeights, cubicBsplineWeig
 use Rattle.regular_weights.specs.declared.place.Loc as Cells
 use Rattle.regular_weights.specs.declared.place.Loc.the-variants as Cell
 use Rattle.regular.specs.Fit.{regularFit}
-use Rattle.regular_map.specs.Map.{RegularMap}
-use Rattle.regular_map.specs.Eval.{locOn, firstOn, weightsOn, slopesOn, partAt}
+use Rattle.regular_blocks.specs.Map.{RegularMap}
+use Rattle.regular_blocks.specs.Eval.{locOn, firstOn, weightsOn, slopesOn, partAt}
 use Rattle.knots.specs.Knots.{countBelow}
 use Rattle.knots.specs.Place as Rectilinear
 use Rattle.knots.specs.Place.{loc}

@@ -6,3 +6,4 @@ pub mod Outcomes
 pub mod Total
 pub mod Builds
 pub mod Blocks
+pub mod Singles

@@ -18,8 +18,8 @@ use Rattle.evaluation.specs.Axes.{zeros, query}
 use Rattle.evaluation.specs.Spline.{oneAnswer, gradient, valuedNumber, valuedValue, OneValue, OneGradient}
 use Rattle.evaluation.specs.declared.answers.Valued.{Valued}
 use Rattle.evaluation.specs.declared.answers.Valued.the-variants.{Value, Refused}
-use Rattle.regular_map.specs.Map.{RegularMap}
-use Rattle.regular_map.specs.Checks.{regular}
+use Rattle.regular_blocks.specs.Map.{RegularMap}
+use Rattle.regular_blocks.specs.Checks.{regular}
 use Rattle.regular_map.proofs.Total as Regular
 use Rattle.rectilinear_map.specs.Map.{RectilinearMap}
 use Rattle.rectilinear_map.specs.Eval.{rectilinear}

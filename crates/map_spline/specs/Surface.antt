@@ -16,8 +16,8 @@ use Rattle.rectilinear.specs.Fit.{rectilinearFit}
 use Rattle.evaluation.specs.Axes.{query}
 use Rattle.evaluation.specs.Spline.{Spline, oneAnswer, gradient}
 use Rattle.regular_map.specs.Map as Regular
-use Rattle.regular_map.specs.Map.{RegularMap}
-use Rattle.regular_map.specs.Checks.{anyStepBad, regular}
+use Rattle.regular_blocks.specs.Map.{RegularMap}
+use Rattle.regular_blocks.specs.Checks.{anyStepBad, regular}
 use Rattle.rectilinear_map.specs.Map as Rectilinear
 use Rattle.rectilinear_map.specs.Map.{RectilinearMap}
 use Rattle.rectilinear_map.specs.Eval.{rectilinear}

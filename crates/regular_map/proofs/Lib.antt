@@ -1,5 +1,3 @@
-pub mod Rows
 pub mod Steps
-pub mod Places
 pub mod Builds
 pub mod Total

@@ -20,7 +20,7 @@ use Rattle.shape.specs.declared.answers.Answer.{Answer}
 use Rattle.shape.specs.declared.answers.Answer.the-variants.{Accepted, Refused}
 use Rattle.shape.proofs.Accepted.{refusal-append, accepted-append, prefix-passed, usable, storage-is}
 use Rattle.multibspline.specs.Numbers.{f0}
-use Rattle.regular_map.specs.Checks.{anyStepBad, mapChecks, mapAnswer}
+use Rattle.regular_blocks.specs.Checks.{anyStepBad, mapChecks, mapAnswer}
 
 -- the steps from i on, of the first k: one more, and none
 module _ (steps : List Float) (k i : ℕ) (h : k ≤ length steps) where

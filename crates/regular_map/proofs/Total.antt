@@ -19,11 +19,11 @@ use Rattle.regular_weights.specs.declared.place.Loc.{Loc}
 use Rattle.regular_weights.specs.declared.place.Loc.the-variants as Loc
 use Rattle.evaluation.specs.Axes.{query}
 use Rattle.evaluation.proofs.Total as Evaluation
-use Rattle.regular_map.specs.declared.eval.First.{First}
-use Rattle.regular_map.specs.declared.eval.First.the-variants as First
-use Rattle.regular_map.specs.Map.{RegularMap}
-use Rattle.regular_map.specs.Eval.{locOn, firstOn, onward, isRefused, refuses}
-use Rattle.regular_map.specs.Checks.{anyStepBad, mapChecks, mapAnswer, fromValuesAnswer, regular}
+use Rattle.regular_blocks.specs.First.{First}
+use Rattle.regular_blocks.specs.First as First
+use Rattle.regular_blocks.specs.Map.{RegularMap}
+use Rattle.regular_blocks.specs.Eval.{locOn, firstOn, onward, isRefused, refuses}
+use Rattle.regular_blocks.specs.Checks.{anyStepBad, mapChecks, mapAnswer, fromValuesAnswer, regular}
 use Rattle.regular_map.specs.Total.{Sound, Representable, MapTotal, FromValuesTotal, OneTotal, BatchTotal, GradientBatchTotal}
 use Rattle.regular_map.proofs.Steps.{map-steps, map-numbered, map-usable, map-sized}
 use Rattle.regular_map.proofs.Builds.{values-passed}

@@ -1,4 +1,2 @@
 pub mod Map
-pub mod Eval
-pub mod Checks
 pub mod Total

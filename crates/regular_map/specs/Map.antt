@@ -1,4 +1,4 @@
--- A regular map by its parts, for any format; and what the functions that build one leave. Assumes nothing.
+-- The map that a record of the code stands for, and what the functions that build one leave. Assumes nothing.
 use mathlib.Core.Bool.{Bool, false}
 use mathlib.Core.List.{List, [], _∷_}
 use Prim.Native.Nat.{ℕ}
@@ -7,17 +7,9 @@ use Rattle.multibspline.specs.Numbers.{f0}
 use Rattle.shape.specs.Refusal.{answerNumber}
 use Rattle.evaluation.specs.Axes.{inUse, zeros}
 use Rattle.evaluation.specs.Built.{BuiltFrom}
+use Rattle.regular_blocks.specs.Map.{RegularMap}
 use Rattle.regular_map.specs.declared.record.MultiBsplineRegular.{MultiBsplineRegular}
 use Rattle.regular_map.specs.declared.record.Built.{Built}
-
--- axis count and four lengths; the first point and the distance of two points on each axis; whether the map goes on in a
--- straight line outside its grid
-pub record RegularMap : Type 0 where
-  pub count : ℕ
-  pub lens : List ℕ
-  pub starts : List Float
-  pub steps : List Float
-  pub linear : Bool
 
 -- the map that a record of the code stands for
 abbrev pub mapOf : MultiBsplineRegular → RegularMap

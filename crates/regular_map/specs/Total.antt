@@ -14,9 +14,9 @@ use Rattle.multibspline.specs.Numbers.{f0}
 use Rattle.regular_weights.specs.declared.place.Loc.the-variants.{Unrepresentable}
 use Rattle.evaluation.specs.Axes.{query}
 use Rattle.evaluation.specs.Spline.{oneAnswer, batchAnswer, gradientBatchAnswer}
-use Rattle.regular_map.specs.Map.{RegularMap}
-use Rattle.regular_map.specs.Eval.{locOn}
-use Rattle.regular_map.specs.Checks.{mapAnswer, fromValuesAnswer, regular}
+use Rattle.regular_blocks.specs.Map.{RegularMap}
+use Rattle.regular_blocks.specs.Eval.{locOn}
+use Rattle.regular_blocks.specs.Checks.{mapAnswer, fromValuesAnswer, regular}
 
 -- a record that is accepted: its shape, its coefficients, every step in use above zero
 pub record Sound (count : ℕ) (lens : List ℕ) (steps : List Float) (coefs : ℕ) : Type 0 where

@@ -1,63 +1,33 @@
 // Batches of queries, axis after axis. A batch that is refused with 6 at an entry has written the entries before it and none
 // from it on.
 ghost use mathlib.Core.Path.{_≡_};
-ghost use Prim.Native.Nat.{_*_, _≤_, _<_};
+ghost use Prim.Native.Nat.{_+_, _*_, _≤_, _<_};
 ghost use lib.ListN.{length, take};
 ghost use lib.Ieee.{binary64};
 ghost use Rattle.shape.specs.Shape.{size};
 ghost use Rattle.shape.specs.Refusal.{answerNumber};
 ghost use Rattle.evaluation.specs.Axes.{Ready};
-ghost use Rattle.evaluation.specs.Batch.{badAt, valueStep, gradientStep, Entry, Entries, ValueBatch, GradientBatch};
-ghost use Rattle.regular_map.specs.Checks.{regular};
+ghost use Rattle.evaluation.specs.Batch.{badAt, valueStep, gradientStep, Entries, ValueBatch, GradientBatch};
+ghost use Rattle.regular_blocks.specs.Checks.{regular};
 use crate::build::check_map;
-use crate::eval::gradient_at;
-use crate::eval::value_at;
-use evaluation::Valued;
-use evaluation::put_parts;
 use evaluation::strides_of;
+use regular_blocks::gradients_block;
+use regular_blocks::values_block;
 use shape::Answer;
 use shape::Refusal;
 
-// Entry i of n: its value, unless it is refused.
-fn put_value(
-    count: usize,
-    dims: &[usize; 4],
-    starts: &[f64; 4],
-    steps: &[f64; 4],
-    linear: bool,
-    strides: &[usize; 4],
-    coeffs: &[f64],
-    xs: &[f64],
-    n: usize,
-    i: usize,
-    out: &mut [f64],
-) -> Answer
-    requires { ⌜ Ready count (now dims) (now strides) × (length (now coeffs) ≡ size (take count (now dims))) ⌝ }
-    requires { ⌜ (i < n) × (count * n ≤ length (now xs)) × (n ≤ length (now out)) ⌝ }
-    ensures { λ r. ⌜ Entry (badAt (regular binary64 (record { count = count; lens = now (dims .entry); starts = now (starts .entry); steps = now (steps .entry); linear = linear }) (now (coeffs .entry))) (now (xs .entry)) n i) (valueStep (regular binary64 (record { count = count; lens = now (dims .entry); starts = now (starts .entry); steps = now (steps .entry); linear = linear }) (now (coeffs .entry))) (now (xs .entry)) n i) (now (out .entry)) (answerNumber r) (now (out .exit)) ⌝ }
+// How many queries from `from` on are evaluated together: 32, or those that are left.
+fn block_size(from: usize, n: usize) -> usize
+    requires { ⌜ from < n ⌝ }
+    ensures { λ r. ⌜ (0 < r) × (r ≤ 32) × (from + r ≤ n) ⌝ }
 {
-    let valued = value_at(
-        count,
-        dims,
-        starts,
-        steps,
-        linear,
-        strides,
-        coeffs,
-        xs,
-        n,
-        i,
-    );
-    match valued {
-        Valued::Value(v) => {
-            out[i] = v;
-            Answer::Accepted
-        }
-        Valued::Refused(refusal) => Answer::Refused(refusal),
+    if n - from < 32 {
+        return n - from;
     }
+    32
 }
 
-// The entries, up to the first that is refused.
+// The values of n queries, block by block, up to the first that is refused.
 fn put_values(
     count: usize,
     dims: &[usize; 4],
@@ -68,14 +38,21 @@ fn put_values(
     coeffs: &[f64],
     xs: &[f64],
     n: usize,
+    firsts: &mut [usize],
+    sats: &mut [usize],
+    ts: &mut [f64],
+    rows: &mut [f64],
     out: &mut [f64],
 ) -> Answer
     requires { ⌜ Ready count (now dims) (now strides) × (length (now coeffs) ≡ size (take count (now dims))) ⌝ }
     requires { ⌜ (count * n ≤ length (now xs)) × (n ≤ length (now out)) ⌝ }
+    requires { ⌜ (32 ≤ length (now firsts)) × (32 ≤ length (now sats)) × (32 ≤ length (now ts)) × (512 ≤ length (now rows)) ⌝ }
     ensures { λ r. ⌜ Entries (badAt (regular binary64 (record { count = count; lens = now (dims .entry); starts = now (starts .entry); steps = now (steps .entry); linear = linear }) (now (coeffs .entry))) (now (xs .entry)) n) (valueStep (regular binary64 (record { count = count; lens = now (dims .entry); starts = now (starts .entry); steps = now (steps .entry); linear = linear }) (now (coeffs .entry))) (now (xs .entry)) n) n (now (out .entry)) (answerNumber r) (now (out .exit)) ⌝ }
 {
-    for i in 0..n {
-        if let Answer::Refused(refusal) = put_value(
+    let mut from: usize = 0;
+    while from < n {
+        let m = block_size(from, n);
+        let good = values_block(
             count,
             dims,
             starts,
@@ -85,11 +62,19 @@ fn put_values(
             coeffs,
             xs,
             n,
-            i,
+            from,
+            32,
+            m,
+            firsts,
+            sats,
+            ts,
+            rows,
             out,
-        ) {
-            return Answer::Refused(refusal);
+        );
+        if good < m {
+            return Answer::Refused(Refusal::Unrepresentable);
         }
+        from += m;
     }
     Answer::Accepted
 }
@@ -115,6 +100,10 @@ pub fn values(
         return Answer::Refused(Refusal::DimensionMismatch);
     }
     let strides = strides_of(count, dims);
+    let mut firsts = [0usize; 32];
+    let mut sats = [0usize; 32];
+    let mut ts = [0.0f64; 32];
+    let mut rows = [0.0f64; 512];
     put_values(
         count,
         &dims,
@@ -125,52 +114,15 @@ pub fn values(
         coeffs,
         xs,
         n,
+        &mut firsts,
+        &mut sats,
+        &mut ts,
+        &mut rows,
         out,
     )
 }
 
-// Entry i of n: its gradient, unless it is refused.
-fn put_gradient(
-    count: usize,
-    dims: &[usize; 4],
-    starts: &[f64; 4],
-    steps: &[f64; 4],
-    linear: bool,
-    strides: &[usize; 4],
-    coeffs: &[f64],
-    xs: &[f64],
-    n: usize,
-    i: usize,
-    out: &mut [f64],
-) -> Answer
-    requires { ⌜ Ready count (now dims) (now strides) × (length (now coeffs) ≡ size (take count (now dims))) ⌝ }
-    requires { ⌜ (i < n) × (count * n ≤ length (now xs)) × (count * n ≤ length (now out)) ⌝ }
-    ensures { λ r. ⌜ Entry (badAt (regular binary64 (record { count = count; lens = now (dims .entry); starts = now (starts .entry); steps = now (steps .entry); linear = linear }) (now (coeffs .entry))) (now (xs .entry)) n i) (gradientStep (regular binary64 (record { count = count; lens = now (dims .entry); starts = now (starts .entry); steps = now (steps .entry); linear = linear }) (now (coeffs .entry))) (now (xs .entry)) n i) (now (out .entry)) (answerNumber r) (now (out .exit)) ⌝ }
-{
-    let gradient = gradient_at(
-        count,
-        dims,
-        starts,
-        steps,
-        linear,
-        strides,
-        coeffs,
-        xs,
-        n,
-        i,
-    );
-    let parts = gradient.parts;
-    let answer = gradient.answer;
-    match answer {
-        Answer::Accepted => {
-            put_parts(parts, count, n, i, out);
-            Answer::Accepted
-        }
-        Answer::Refused(refusal) => Answer::Refused(refusal),
-    }
-}
-
-// The entries, up to the first that is refused.
+// The gradients of n queries, block by block, up to the first that is refused.
 fn put_gradients(
     count: usize,
     dims: &[usize; 4],
@@ -181,14 +133,22 @@ fn put_gradients(
     coeffs: &[f64],
     xs: &[f64],
     n: usize,
+    firsts: &mut [usize],
+    sats: &mut [usize],
+    ts: &mut [f64],
+    rows: &mut [f64],
+    slopes: &mut [f64],
     out: &mut [f64],
 ) -> Answer
     requires { ⌜ Ready count (now dims) (now strides) × (length (now coeffs) ≡ size (take count (now dims))) ⌝ }
     requires { ⌜ (count * n ≤ length (now xs)) × (count * n ≤ length (now out)) ⌝ }
+    requires { ⌜ (32 ≤ length (now firsts)) × (32 ≤ length (now sats)) × (32 ≤ length (now ts)) × (512 ≤ length (now rows)) × (length (now slopes) ≡ length (now rows)) ⌝ }
     ensures { λ r. ⌜ Entries (badAt (regular binary64 (record { count = count; lens = now (dims .entry); starts = now (starts .entry); steps = now (steps .entry); linear = linear }) (now (coeffs .entry))) (now (xs .entry)) n) (gradientStep (regular binary64 (record { count = count; lens = now (dims .entry); starts = now (starts .entry); steps = now (steps .entry); linear = linear }) (now (coeffs .entry))) (now (xs .entry)) n) n (now (out .entry)) (answerNumber r) (now (out .exit)) ⌝ }
 {
-    for i in 0..n {
-        if let Answer::Refused(refusal) = put_gradient(
+    let mut from: usize = 0;
+    while from < n {
+        let m = block_size(from, n);
+        let good = gradients_block(
             count,
             dims,
             starts,
@@ -198,11 +158,20 @@ fn put_gradients(
             coeffs,
             xs,
             n,
-            i,
+            from,
+            32,
+            m,
+            firsts,
+            sats,
+            ts,
+            rows,
+            slopes,
             out,
-        ) {
-            return Answer::Refused(refusal);
+        );
+        if good < m {
+            return Answer::Refused(Refusal::Unrepresentable);
         }
+        from += m;
     }
     Answer::Accepted
 }
@@ -231,6 +200,11 @@ pub fn gradients(
     }
     let n = out.len() / count;
     let strides = strides_of(count, dims);
+    let mut firsts = [0usize; 32];
+    let mut sats = [0usize; 32];
+    let mut ts = [0.0f64; 32];
+    let mut rows = [0.0f64; 512];
+    let mut slopes = [0.0f64; 512];
     put_gradients(
         count,
         &dims,
@@ -241,6 +215,11 @@ pub fn gradients(
         coeffs,
         xs,
         n,
+        &mut firsts,
+        &mut sats,
+        &mut ts,
+        &mut rows,
+        &mut slopes,
         out,
     )
 }

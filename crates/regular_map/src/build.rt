@@ -10,7 +10,7 @@ ghost use Rattle.multibspline.specs.Numbers.{f0};
 ghost use Rattle.regular.specs.Fit.{RegularFitted};
 ghost use Rattle.regular_map.specs.Map.{mapOf, made, blank, RegularBuilt};
 ghost use Rattle.shape.specs.Refusal.{answerNumber, refusalNumber};
-ghost use Rattle.regular_map.specs.Checks.{anyStepBad, mapAnswer, fromValuesAnswer};
+ghost use Rattle.regular_blocks.specs.Checks.{anyStepBad, mapAnswer, fromValuesAnswer};
 use crate::record::Built;
 use crate::record::MultiBsplineRegular;
 use evaluation::used_floats;

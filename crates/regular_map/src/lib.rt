@@ -1,6 +1,5 @@
 // Regular maps: the record, building, values, gradients and batches, double precision. After interpn's
 // multibspline::regular.
-mod axis;
 mod batch;
 mod build;
 mod eval;

@@ -7,7 +7,7 @@ ghost use Rattle.regular.specs.Fit.{RegularFitted};
 ghost use Rattle.evaluation.specs.Spline.{OneValue, OneGradient};
 ghost use Rattle.evaluation.specs.Batch.{ValueBatch, GradientBatch};
 ghost use Rattle.regular_map.specs.Map.{mapOf, RegularBuilt};
-ghost use Rattle.regular_map.specs.Checks.{mapAnswer, fromValuesAnswer, regular};
+ghost use Rattle.regular_blocks.specs.Checks.{mapAnswer, fromValuesAnswer, regular};
 use crate::batch;
 use crate::build;
 use crate::eval;

@@ -1,5 +1,5 @@
 use Rattle.knots.specs.Joined.{allRise}
-use Rattle.regular_map.specs.Checks.{anyStepBad}
+use Rattle.regular_blocks.specs.Checks.{anyStepBad}
 use lib.ListN.{take, drop, length}
 use Prim.Native.Nat.{_≤_}
 use lib.ListN.{take, length}

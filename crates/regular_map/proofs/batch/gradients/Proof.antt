@@ -1,11 +1,13 @@
+use mathlib.Core.Path.{refl}
 use native.Mathlib.Omega.{arith}
 use denote.Ref.{now}
+use lib.Dec.{lit≤}
 use lib.ListN.{length}
 use borrow.Author.Needs.{needs}
 use Rattle.shape.specs.declared.answers.Refusal.the-variants.{DimensionMismatch}
 use Rattle.evaluation.proofs.Batches.{batch-refused, batch-entries, whole-batch}
 use Rattle.evaluation.proofs.Outcomes.{gradient-checks, gradient-whole, gradient-length, gradient-passed}
-use Rattle.regular_map.specs.Checks.{mapAnswer}
+use Rattle.regular_blocks.specs.Checks.{mapAnswer}
 use Rattle.regular_map.proofs.Steps.{map-numbered, map-usable, map-sized}
 use Rattle.regular_map.proofs.batch.gradients.Statement.{statement}
 use Rattle.regular_map.proofs.batch.gradients.Tie as tie
@@ -51,7 +53,7 @@ div-n c =
 
 put-gradients-requires : tie.Need-put-gradients-requires
 put-gradients-requires c κs =
-    let k = c .before .before .before .before .before in
+    let k = c .before .before .before .before .before .before .before .before .before .before in
     let j = k .before in
     let i = j .before in
     let t = i .before in
@@ -62,14 +64,14 @@ put-gradients-requires c κs =
         record { shape = map-usable (s .args .count) (s .args .t2) (s .args .t4) _ (t .enum-told .given .1) (w .check-map .ensures) (omega (arith, s .good)); four = omega (arith, s .good); strides-are = k .strides-of .ensures },
         map-sized (s .args .count) (s .args .t2) (s .args .t4) _ (t .enum-told .given .1) (w .check-map .ensures),
       ),
-      (omega (arith, n, j .if2 .left), omega (arith, n)),
+      ((omega (arith, n, j .if2 .left), omega (arith, n)), (lit≤ tt, lit≤ tt, lit≤ tt, lit≤ tt, refl)),
     )
 
 returns-4 : tie.Need-returns-4
 unfolding mapAnswer
 returns-4 c =
-    let p = c .before .before in
-    let j = p .before .before .before .before .before .before .before in
+    let p = c .before .before .before .before .before .before .before in
+    let j = p .before .before .before .before .before .before .before .before .before .before .before .before in
     let i = j .before in
     let t = i .before in
     let w = t .before .before in
@@ -79,4 +81,4 @@ returns-4 c =
 pub gradients-spec : {M : Type 1} → statement M
 gradients-spec =
     tie.close
-    (tie.spec (λ c κs. search needs) (λ c. search needs) returns (λ c. search needs) rem-if1 returns-2 returns-3 div-n (λ c κs. search needs) put-gradients-requires (λ c. search needs) returns-4)
+    (tie.spec (λ c κs. search needs) (λ c. search needs) returns (λ c. search needs) rem-if1 returns-2 returns-3 div-n (λ c κs. search needs) (λ c. refl) (λ c. refl) (λ c. refl) (λ c. refl) (λ c. refl) put-gradients-requires (λ c. c .before .before .before .before .before .before .before .put-gradients .kept .1 .1 .1 .1 .1 .1 .1 .1 .1 .1 .1 .1 .1 .1 .0) returns-4)

@@ -1,11 +1,13 @@
+use mathlib.Core.Path.{refl}
 use native.Mathlib.Omega.{arith}
 use denote.Ref.{now}
+use lib.Dec.{lit≤}
 use lib.ListN.{length}
 use borrow.Author.Needs.{needs}
 use Rattle.shape.specs.declared.answers.Refusal.the-variants.{DimensionMismatch}
 use Rattle.evaluation.proofs.Batches.{batch-refused, batch-entries, batch-small}
 use Rattle.evaluation.proofs.Outcomes.{batch-checks, batch-length, batch-passed}
-use Rattle.regular_map.specs.Checks.{mapAnswer}
+use Rattle.regular_blocks.specs.Checks.{mapAnswer}
 use Rattle.regular_map.proofs.Steps.{map-numbered, map-usable, map-sized}
 use Rattle.regular_map.proofs.batch.values.Statement.{statement}
 use Rattle.regular_map.proofs.batch.values.Tie as tie
@@ -34,7 +36,7 @@ returns-2 c =
 
 put-values-requires : tie.Need-put-values-requires
 put-values-requires c κs =
-    let k = c .before .before .before .before .before in
+    let k = c .before .before .before .before .before .before .before .before .before in
     let i = k .before in
     let t = i .before in
     let w = t .before .before in
@@ -43,14 +45,14 @@ put-values-requires c κs =
         record { shape = map-usable (s .args .count) (s .args .t2) (s .args .t4) _ (t .enum-told .given .1) (w .check-map .ensures) (omega (arith, s .good)); four = omega (arith, s .good); strides-are = k .strides-of .ensures },
         map-sized (s .args .count) (s .args .t2) (s .args .t4) _ (t .enum-told .given .1) (w .check-map .ensures),
       ),
-      (omega (arith, i .if1 .left), omega arith),
+      ((omega (arith, i .if1 .left), omega arith), (lit≤ tt, lit≤ tt, lit≤ tt, lit≤ tt)),
     )
 
 returns-3 : tie.Need-returns-3
 unfolding mapAnswer
 returns-3 c =
-    let p = c .before .before in
-    let i = p .before .before .before .before .before .before .before in
+    let p = c .before .before .before .before .before .before in
+    let i = p .before .before .before .before .before .before .before .before .before .before .before in
     let t = i .before in
     let w = t .before .before in
     let a = w .before .before .before .before .args in
@@ -59,4 +61,4 @@ returns-3 c =
 pub values-spec : {M : Type 1} → statement M
 values-spec =
     tie.close
-    (tie.spec (λ c κs. search needs) (λ c. search needs) returns (λ c. search needs) mul-if1 returns-2 (λ c κs. search needs) put-values-requires (λ c. search needs) returns-3)
+    (tie.spec (λ c κs. search needs) (λ c. search needs) returns (λ c. search needs) mul-if1 returns-2 (λ c κs. search needs) (λ c. refl) (λ c. refl) (λ c. refl) (λ c. refl) put-values-requires (λ c. c .before .before .before .before .before .before .put-values .kept .1 .1 .1 .1 .1 .1 .1 .1 .1 .1 .1 .1 .1 .0) returns-3)

@@ -3,7 +3,7 @@ use Prim.Native.Nat.{_≤_, _-_}
 use native.Mathlib.Omega.{arith}
 use lib.Ieee.{ofBits}
 use lib.ListN.{take, drop}
-use Rattle.regular_map.specs.Checks.{anyStepBad}
+use Rattle.regular_blocks.specs.Checks.{anyStepBad}
 use Rattle.regular_map.proofs.Steps.{bad-cons, bad-end}
 use Rattle.regular_map.proofs.build.any_step_bad.Statement.{statement}
 use Rattle.regular_map.proofs.build.any_step_bad.Tie as tie

@@ -4,7 +4,7 @@ use denote.Ref.{now}
 use lib.ListN.{length}
 use borrow.Author.Needs.{needs}
 use Rattle.shape.proofs.Fitted.{fitted-by}
-use Rattle.regular_map.specs.Checks.{mapAnswer}
+use Rattle.regular_blocks.specs.Checks.{mapAnswer}
 use Rattle.evaluation.proofs.Builds.{refused-with, built-at}
 use Rattle.regular_map.proofs.Builds.{values-refused, values-passed}
 use Rattle.regular_map.proofs.build.from_values.Statement.{statement}

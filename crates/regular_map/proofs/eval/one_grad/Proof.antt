@@ -4,7 +4,7 @@ use lib.ListN.{length}
 use borrow.Author.Needs.{needs}
 use Rattle.shape.specs.declared.answers.Refusal.the-variants.{DimensionMismatch}
 use Rattle.evaluation.proofs.Outcomes.{one-gradient-refused, one-checks, one-length, one-gradient-answered}
-use Rattle.regular_map.specs.Checks.{mapAnswer}
+use Rattle.regular_blocks.specs.Checks.{mapAnswer}
 use Rattle.regular_map.proofs.Steps.{map-numbered, map-usable, map-sized}
 use Rattle.regular_map.proofs.eval.one_grad.Statement.{statement}
 use Rattle.regular_map.proofs.eval.one_grad.Tie as tie
@@ -34,8 +34,9 @@ gradient-at-requires c κs =
     let w = t .before .before in
     let s = w .before .before .before in
     let u = map-usable (s .args .count) (s .args .t2) (s .args .t4) _ (t .enum-told .given .1) (w .check-map .ensures) (omega (arith, s .good)) in (
-      (record { shape = u; four = omega (arith, s .good); strides-are = k .strides-of .ensures }, omega arith, omega (arith, i .if1 .left)),
+      record { shape = u; four = omega (arith, s .good); strides-are = k .strides-of .ensures },
       map-sized (s .args .count) (s .args .t2) (s .args .t4) _ (t .enum-told .given .1) (w .check-map .ensures),
+      omega (arith, i .if1 .left),
     )
 
 returns-3 : tie.Need-returns-3

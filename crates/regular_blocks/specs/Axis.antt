@@ -1,0 +1,78 @@
+-- One axis of a block of queries: the places of its coordinates, kept entry by entry in lent slices, and the rows worked out
+-- from them. Assumes nothing.
+--     n, start, step  the points of the axis
+--     stride          how many coefficients apart two neighbours along the axis stand
+--     x               a coordinate
+use mathlib.Core.Path.{_≡_}
+use mathlib.Core.Logic.{_≢_}
+use mathlib.Core.Bool.{Bool, true, false}
+use mathlib.Core.List.{List}
+use Prim.Native.Nat.{ℕ, zero, suc, _+_, _*_, _≤_, _<_}
+use lib.ListN.{length, getD}
+use lib.Ieee.{Float, nan, Format}
+use Rattle.multibspline.specs.declared.saturation.Saturation.{Saturation}
+use Rattle.multibspline.specs.declared.saturation.Saturation.the-variants.{None, InsideLow, OutsideLow, InsideHigh, OutsideHigh}
+use Rattle.regular_weights.specs.Place.{getLoc, pastOrigin}
+use Rattle.regular_weights.specs.Weights.{interpWeights, interpWeightDerivatives}
+use Rattle.regular_weights.specs.declared.place.Loc.the-variants.{At, Unrepresentable}
+use Rattle.evaluation.specs.Block.{rowAt}
+
+-- ---- a place as a number, and back
+
+abbrev pub satNumber : Saturation → ℕ
+satNumber None = 0
+satNumber InsideLow = 1
+satNumber OutsideLow = 2
+satNumber InsideHigh = 3
+satNumber OutsideHigh = 4
+
+abbrev pub satOf : ℕ → Saturation
+satOf zero = None
+satOf (suc zero) = InsideLow
+satOf (suc (suc zero)) = OutsideLow
+satOf (suc (suc (suc zero))) = InsideHigh
+satOf (suc (suc (suc (suc k)))) = OutsideHigh
+
+-- ---- the places of an axis
+
+-- an axis in use of an accepted map
+pub record Axis (n stride : ℕ) : Type 0 where
+  pub four : 4 ≤ n
+  pub few : n ≤ 16777216
+  pub cells : n * stride ≤ 16777216
+
+module _ (f : Format) (n : ℕ) (start step : Float) (stride : ℕ) where
+  -- x has a place, with the number `sat`, at t past the point after its origin; the first coefficient is moved on by the origin
+  pub record Placed (x : Float) (first first′ sat : ℕ) (t : Float) : Type 0 where
+    pub origin : ℕ
+    pub place : getLoc f n start step x ≡ At (satOf sat) origin
+    pub past : t ≡ pastOrigin f start step x origin
+    pub moved : first′ ≡ first + origin * stride
+
+  -- entry k has been looked at: it has its place, or none can be represented
+  pub record Looked (x : Float) (k : ℕ) (firsts sats : List ℕ) (ts : List Float) (r : Bool) (firsts′ sats′ : List ℕ) (ts′ : List Float) : Type 0 where
+    pub placed : r ≡ true → Placed x (getD firsts k 0) (getD firsts′ k 0) (getD sats′ k 0) (getD ts′ k nan)
+    pub refused : r ≡ false → getLoc f n start step x ≡ Unrepresentable
+    pub other-firsts : (j : ℕ) → j ≢ k → getD firsts′ j 0 ≡ getD firsts j 0
+    pub other-sats : (j : ℕ) → j ≢ k → getD sats′ j 0 ≡ getD sats j 0
+    pub other-ts : (j : ℕ) → j ≢ k → getD ts′ j nan ≡ getD ts j nan
+
+  -- of m entries, whose coordinates stand in xs from `at` on, r have a place, and the next has none
+  pub record Places (xs : List Float) (at m : ℕ) (firsts : List ℕ) (r : ℕ) (firsts′ sats : List ℕ) (ts : List Float) : Type 0 where
+    pub most : r ≤ m
+    pub placed : (k : ℕ) → k < r → Placed (getD xs (at + k) nan) (getD firsts k 0) (getD firsts′ k 0) (getD sats k 0) (getD ts k nan)
+    pub stopped : r < m → getLoc f n start step (getD xs (at + r) nan) ≡ Unrepresentable
+
+-- ---- the rows of an axis
+
+-- of the entry k: its weights, and their slopes
+unfoldable pub weightRow : Format → Bool → List ℕ → List Float → ℕ → List Float
+weightRow f linear sats ts k = interpWeights f linear (satOf (getD sats k 0)) (getD ts k nan)
+
+unfoldable pub slopeRow : Format → Bool → Float → List ℕ → List Float → ℕ → List Float
+slopeRow f linear step sats ts k = interpWeightDerivatives f linear (satOf (getD sats k 0)) step (getD ts k nan)
+
+-- m rows are written, from row number `base` on; those below are as they were
+pub record RowsFrom (row : ℕ → List Float) (base m : ℕ) (rows rows′ : List Float) : Type 0 where
+  pub here : (k : ℕ) → k < m → rowAt rows′ (base + k) ≡ row k
+  pub below : (j : ℕ) → j < base → rowAt rows′ j ≡ rowAt rows j
