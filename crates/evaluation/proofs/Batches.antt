@@ -17,6 +17,7 @@ use Rattle.shape.specs.declared.answers.Answer.{Answer}
 use Rattle.shape.specs.declared.answers.Answer.the-variants.{Accepted, Refused}
 use Rattle.shape.proofs.Accepted.{refusal-suc}
 use Rattle.evaluation.specs.Batch.{before, written, Entry, Entries, Batch}
+use Rattle.evaluation.specs.Block.{Block}
 
 -- ---- before the first bad one
 
@@ -89,6 +90,51 @@ module _ (bad : ℕ → Bool) (step : ℕ → List Float → List Float) (n : �
       let all : i ≡ n = omega (arith, w .most) in
       let going = rw all at (w .going) in
       record { answers = rw (going, le-ltb n n (omega arith)); leaves = rw going (rw all at (w .values)) }
+
+-- ---- the loop over the blocks
+
+-- steps that do the same to any output
+pub written-same : (step step′ : ℕ → List Float → List Float) (r : ℕ) (out : List Float) → ((k : ℕ) → k < r → (o : List Float) → step k o ≡ step′ k o) → written step r out ≡ written step′ r out
+unfolding written
+written-same step step′ zero out same = refl
+written-same step step′ (suc r) out same = same r (omega arith) _ ∙ ap (step′ r) (written-same step step′ r out (λ k h. same k (omega arith)))
+
+module _ (bad : ℕ → Bool) (step : ℕ → List Float → List Float) where
+  -- entries none of which is bad
+  before-block : (i : ℕ) → before bad i ≡ i → (r : ℕ) → ((k : ℕ) → k < r → bad (i + k) ≡ false) → before bad (i + r) ≡ i + r
+  before-block i e zero h = let z : i + 0 ≡ i = omega arith in rw z e
+  before-block i e (suc r) h =
+      let z : i + suc r ≡ i + r + 1 = omega arith in
+      rw z (before-next bad (i + r) (before-block i e r (λ k l. h k (omega arith))) (h r (omega arith)))
+
+  -- the entries of a block follow those before it
+  written-block : (i r : ℕ) (out : List Float) → written (λ k. step (i + k)) r (written step i out) ≡ written step (i + r) out
+  unfolding written
+  written-block i zero out = let z : i + 0 ≡ i = omega arith in rw z
+  written-block i (suc r) out =
+      let z : i + suc r ≡ suc (i + r) = omega arith in
+      rw z (ap (step (i + r)) (written-block i r out))
+
+  module _ (n : ℕ) {out₀ out out′ : List Float} {i m r : ℕ} (w : Running bad step n out₀ out i) (fits : i + m ≤ n) (b : Block bad step i m out r out′) where
+    values-after : out′ ≡ written step (i + r) out₀
+    values-after = b .leaves ∙ ap (written (λ k. step (i + k)) r) (w .values) ∙ written-block i r out₀
+
+    -- all entries of the block are done
+    pub block-next : length out′ ≡ length out → m ≤ r → Running bad step n out₀ out′ (i + m)
+    block-next len all =
+        let e : r ≡ m = omega (arith, b .most) in
+        record {
+          most = fits;
+          length-out = len ∙ w .length-out;
+          going = rw (← e) (before-block i (w .going) r (b .good));
+          values = rw (← e) values-after;
+        }
+
+    -- an entry of it is bad
+    pub block-stop : r < m → Entries bad step n out₀ 6 out′
+    block-stop some =
+        let stop = before-stop bad (i + r) (before-block i (w .going) r (b .good)) (b .stops some) n (omega arith) in
+        record { answers = rw (stop, lt-ltb (i + r) n (omega arith)); leaves = rw stop values-after }
 
 -- ---- a whole batch: refused before its entries, or by them
 

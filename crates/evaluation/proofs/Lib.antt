@@ -5,3 +5,4 @@ pub mod Batches
 pub mod Outcomes
 pub mod Total
 pub mod Builds
+pub mod Blocks

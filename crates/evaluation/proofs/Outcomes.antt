@@ -23,9 +23,10 @@ use Rattle.evaluation.specs.declared.answers.Valued.{Valued}
 use Rattle.evaluation.specs.declared.answers.Valued.the-variants as Valued
 use Rattle.evaluation.specs.Axes.{zeros, parts, query}
 use Rattle.evaluation.specs.Spline.{Spline, gradient, valuedNumber, valuedValue, Answered, GradientAnswered, oneAnswer, OneValue, OneGradient, batchAnswer, gradientBatchAnswer}
-use Rattle.evaluation.specs.Batch.{badAt, valueStep, gradientStep, Entry}
+use Rattle.evaluation.specs.Batch.{written, badAt, valueStep, gradientStep, Entry}
+use Rattle.evaluation.specs.Block.{Block}
 use Rattle.evaluation.proofs.Entries.{axis-at}
-use Rattle.evaluation.proofs.Batches.{entry-done, entry-refused, none}
+use Rattle.evaluation.proofs.Batches.{written-same, entry-done, entry-refused, none}
 
 -- ---- a query whose lengths are right
 
@@ -75,6 +76,40 @@ module _ (s : Spline) (xs : List Float) (n i : ℕ) (out : List Float) where
       → Entry (badAt s xs n i) (gradientStep s xs n i) out (refusalNumber refusal) out
   unfolding badAt gradientStep
   gradient-entry-refused {y} {refusal} told w = entry-refused refusal (sym (ap answerNumber told) ∙ w .answers)
+
+-- ---- a block of a batch, by what was written for each of its entries
+
+module _ (s : Spline) (xs : List Float) (n start m r : ℕ) (out : List Float) {out′ : List Float} (most : r ≤ m)
+    (good : (k : ℕ) → k < r → s .refuses (query (s .axes) xs n (start + k)) ≡ false) (stops : r < m → s .refuses (query (s .axes) xs n (start + r)) ≡ true) where
+  pub value-block : (v : ℕ → Float) → ((k : ℕ) → k < r → v k ≡ s .value (query (s .axes) xs n (start + k)))
+      → out′ ≡ written (λ k o. set o (start + k) (v k)) r out → Block (badAt s xs n) (valueStep s xs n) start m out r out′
+  unfolding badAt valueStep
+  value-block v same e =
+      record { most = most; good = good; stops = stops; leaves = e ∙ written-same (λ k o. set o (start + k) (v k)) _ r out (λ k h o. ap (set o (start + k)) (same k h)) }
+
+  pub gradient-block : (g : ℕ → ℕ → Float) → ((k j : ℕ) → k < r → j < s .axes → g k j ≡ s .part (query (s .axes) xs n (start + k)) j)
+      → out′ ≡ written (λ k o. put (λ j. j * n + (start + k)) (g k) (s .axes) o) r out → Block (badAt s xs n) (gradientStep s xs n) start m out r out′
+  unfolding badAt gradientStep
+  gradient-block g same e =
+      record {
+        most = most;
+        good = good;
+        stops = stops;
+        leaves = e ∙ written-same (λ k o. put (λ j. j * n + (start + k)) (g k) (s .axes) o) _ r out (λ k h o. put-ext (λ j. j * n + (start + k)) _ _ (s .axes) o (λ j l. same k j h l));
+      }
+
+  -- over one axis, the one part
+  pub slope-block : s .axes ≡ 1 → (v : ℕ → Float) → ((k : ℕ) → k < r → v k ≡ s .part (query (s .axes) xs n (start + k)) 0)
+      → out′ ≡ written (λ k o. set o (start + k) (v k)) r out → Block (badAt s xs n) (gradientStep s xs n) start m out r out′
+  unfolding badAt gradientStep
+  slope-block one v same e =
+      let here : (k : ℕ) → 0 * n + (start + k) ≡ start + k = λ k. omega arith in
+      record {
+        most = most;
+        good = good;
+        stops = stops;
+        leaves = e ∙ written-same (λ k o. set o (start + k) (v k)) _ r out (λ k h o. rw one (rw (here k, ← (rw one at (same k h)))));
+      }
 
 -- ---- the checks of a map, and what follows them
 

@@ -3,3 +3,4 @@ pub mod Spline
 pub mod Batch
 pub mod Total
 pub mod Built
+pub mod Block

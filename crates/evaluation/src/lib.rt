@@ -1,5 +1,6 @@
 // What evaluating a map is on either grid: the coordinates of a query, the sums over the coefficients that count, the answers.
 mod answers;
+mod block;
 mod in_use;
 mod places;
 mod sums;
@@ -7,6 +8,8 @@ mod sums;
 pub use answers::Gradient;
 pub use answers::Valued;
 pub use answers::refused_gradient;
+pub use block::put_row;
+pub use block::row;
 pub use in_use::used_floats;
 pub use in_use::used_lens;
 pub use places::put_parts;

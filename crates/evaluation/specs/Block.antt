@@ -1,0 +1,30 @@
+-- A block of a batch: its queries' rows of weights in flat buffers, and what its entries leave. Assumes nothing.
+--     rows     rows of four, end to end
+--     cap      how many queries a block can hold: the rows of an axis
+use mathlib.Core.Path.{_≡_}
+use mathlib.Core.Bool.{Bool, true, false}
+use mathlib.Core.List.{List, [], _∷_}
+use Prim.Native.Nat.{ℕ, _+_, _*_, _≤_, _<_}
+use lib.ListN.{getD}
+use lib.Ieee.{Float, nan}
+use Rattle.shape.specs.Cells.{put, from}
+use Rattle.evaluation.specs.Batch.{written}
+
+-- row number j
+unfoldable pub rowAt : List Float → ℕ → List Float
+rowAt rows j = getD rows (4 * j) nan ∷ getD rows (4 * j + 1) nan ∷ getD rows (4 * j + 2) nan ∷ getD rows (4 * j + 3) nan ∷ []
+
+-- the rows with row number j replaced
+unfoldable pub withRow : List Float → ℕ → List Float → List Float
+withRow rows j row = put (from (4 * j)) (λ p. getD row p nan) 4 rows
+
+-- the weights of query k of a block, axis after axis
+unfoldable pub weightsOf : List Float → ℕ → ℕ → List (List Float)
+weightsOf rows cap k = rowAt rows k ∷ rowAt rows (cap + k) ∷ rowAt rows (2 * cap + k) ∷ rowAt rows (3 * cap + k) ∷ []
+
+-- the m entries from `start` on: r of them are written, and then all are done or one is bad
+pub record Block (bad : ℕ → Bool) (step : ℕ → List Float → List Float) (start m : ℕ) (out : List Float) (r : ℕ) (out′ : List Float) : Type 0 where
+  pub most : r ≤ m
+  pub good : (k : ℕ) → k < r → bad (start + k) ≡ false
+  pub stops : r < m → bad (start + r) ≡ true
+  pub leaves : out′ ≡ written (λ k. step (start + k)) r out
