@@ -1,12 +1,13 @@
 -- Laws of `rises`: the check, knot by knot, and that knots which rise are in order. Assumes nothing.
 use mathlib.Core.Path.{_≡_, refl, _∙_}
 use mathlib.Core.Logic.{inl, inr}
-use mathlib.Core.Bool.{Bool, true, false, not, _&&_}
+use mathlib.Core.Bool.{Bool, true, false, cond, _&&_}
 use mathlib.Core.List.{List, [], _∷_}
 use Prim.Native.Nat.{ℕ, zero, suc, _+_, _-_, _≤_, _<_}
 use native.Mathlib.Nat.{eq-or-lt-of-le}
 use native.Mathlib.Omega.{arith}
-use borrow.Author.Tests.{not-true, not-false}
+use borrow.Author.Tests.{ne-eqb}
+use lib.Dec.{eqb}
 use lib.ListN.{length, getD, drop, length-drop}
 use lib.Seq.{drop-cons}
 use lib.Ieee.{Float, nan, lt}
@@ -26,6 +27,19 @@ two-more : (ks : List Float) (i : ℕ) → suc i < length ks → rises (drop i k
 unfolding rises
 two-more ks i h = rw (drop-cons ks i nan (let q : i < length ks = omega arith in q), drop-cons ks (suc i) nan h)
 
+and-true : (b : Bool) → b && true ≡ b
+and-true true = refl
+and-true false = refl
+
+and-false : (b : Bool) → b && false ≡ false
+and-false true = refl
+and-false false = refl
+
+-- a pair that does not rise is counted
+counted-on : (falls : ℕ) (up rest : Bool) → eqb falls 0 && (up && rest) ≡ (eqb (falls + cond up 0 1) 0 && rest)
+counted-on falls true rest = let q : falls + 0 ≡ falls = omega arith in rw q
+counted-on falls false rest = rw (ne-eqb (falls + 1) 0 (λ e. let q : ⊥ = omega arith in q)) (and-false (eqb falls 0))
+
 module _ (ks : List Float) (i : ℕ) (some : 1 ≤ i) where
   next : i < length ks → rises (drop (i - 1) ks) ≡ (lt (getD ks (i - 1) nan) (getD ks i nan) && rises (drop (i + 1 - 1) ks))
   next h =
@@ -33,15 +47,12 @@ module _ (ks : List Float) (i : ℕ) (some : 1 ≤ i) where
       let e′ : i + 1 - 1 ≡ i = omega arith in
       rw e′ (rw e at (two-more ks (i - 1) (omega arith)))
 
-  -- knot i is above the one before it, or is not, or there is none
-  pub rises-on : i < length ks → not (lt (getD ks (i - 1) nan) (getD ks i nan)) ≡ false → rises (drop (i - 1) ks) ≡ rises (drop (i + 1 - 1) ks)
-  rises-on h e = next h ∙ rw (not-false (lt (getD ks (i - 1) nan) (getD ks i nan)) e)
+  -- with the pairs that do not rise counted up to knot i, and one more
+  pub rises-on : (falls : ℕ) → i < length ks → eqb falls 0 && rises (drop (i - 1) ks) ≡ (eqb (falls + cond (lt (getD ks (i - 1) nan) (getD ks i nan)) 0 1) 0 && rises (drop (i + 1 - 1) ks))
+  rises-on falls h = rw (next h) (counted-on falls (lt (getD ks (i - 1) nan) (getD ks i nan)) (rises (drop (i + 1 - 1) ks)))
 
-  pub rises-not : i < length ks → not (lt (getD ks (i - 1) nan) (getD ks i nan)) ≡ true → rises (drop (i - 1) ks) ≡ false
-  rises-not h e = next h ∙ rw (not-true (lt (getD ks (i - 1) nan) (getD ks i nan)) e)
-
-  pub rises-end : length ks ≤ i → rises (drop (i - 1) ks) ≡ true
-  rises-end h = rises-short (drop (i - 1) ks) (rw (length-drop (i - 1) ks) (omega arith))
+  pub rises-end : (falls : ℕ) → length ks ≤ i → eqb falls 0 && rises (drop (i - 1) ks) ≡ eqb falls 0
+  rises-end falls h = rw (rises-short (drop (i - 1) ks) (rw (length-drop (i - 1) ks) (omega arith))) (and-true (eqb falls 0))
 
 -- ---- knots that rise
 

@@ -26,11 +26,23 @@ fn knot(grid: &[f64], p: usize) -> f64
     grid[n - 1] + ((i - (n - 1)) as f64) * (grid[n - 1] - grid[n - 2])
 }
 
-// The six knots beside a span: three up to its first one, three from its last one on.
+// The six knots beside a span: three up to its first one, three from its last one on. On most spans all are knots of the grid.
 pub fn span_knots(grid: &[f64], span: usize) -> [f64; 6]
     requires { ⌜ (4 ≤ length (now grid)) × (span + 1 < length (now grid)) ⌝ }
     ensures { λ r. ⌜ r ≡ spanKnots binary64 (now (grid .entry)) span ⌝ }
 {
+    if 2 <= span {
+        if span + 3 < grid.len() {
+            return [
+                grid[span - 2],
+                grid[span - 1],
+                grid[span],
+                grid[span + 1],
+                grid[span + 2],
+                grid[span + 3],
+            ];
+        }
+    }
     let a = knot(grid, span);
     let b = knot(grid, span + 1);
     let c = knot(grid, span + 2);
@@ -73,9 +85,32 @@ pub fn weights_between(u: [f64; 6], x: f64) -> [f64; 4]
     cubic(x - u[2], x - u[1], x - u[0], u[3] - x, u[4] - x, u[5] - x)
 }
 
+// Each knot goes straight into its difference: an array of six in between would go through memory.
 pub fn basis_span_weights(grid: &[f64], span: usize, x: f64) -> [f64; 4]
     requires { ⌜ (4 ≤ length (now grid)) × (span + 1 < length (now grid)) ⌝ }
     ensures { λ r. ⌜ r ≡ basisSpanWeights binary64 (now (grid .entry)) span x ⌝ }
 {
-    weights_between(span_knots(grid, span), x)
+    cubic(
+        x - knot(grid, span + 2),
+        x - knot(grid, span + 1),
+        x - knot(grid, span),
+        knot(grid, span + 3) - x,
+        knot(grid, span + 4) - x,
+        knot(grid, span + 5) - x,
+    )
+}
+
+// The same where all six knots are knots of the grid.
+pub fn inner_weights(grid: &[f64], span: usize, x: f64) -> [f64; 4]
+    requires { ⌜ (2 ≤ span) × (span + 3 < length (now grid)) ⌝ }
+    ensures { λ r. ⌜ r ≡ basisSpanWeights binary64 (now (grid .entry)) span x ⌝ }
+{
+    cubic(
+        x - grid[span],
+        x - grid[span - 1],
+        x - grid[span - 2],
+        grid[span + 1] - x,
+        grid[span + 2] - x,
+        grid[span + 3] - x,
+    )
 }

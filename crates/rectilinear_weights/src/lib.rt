@@ -6,6 +6,7 @@ mod slopes;
 mod weights;
 
 pub use basis::basis_span_weights;
+pub use basis::inner_weights;
 pub use ghosts::Ghost;
 pub use ghosts::high_ghost_coeffs;
 pub use ghosts::low_ghost_coeffs;
