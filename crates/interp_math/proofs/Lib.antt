@@ -1,3 +1,4 @@
 pub mod Four
 pub mod Levels
 pub mod Sums
+pub mod Tables

@@ -17,6 +17,13 @@ pub use slopes::gradient_1;
 pub use slopes::gradient_2;
 pub use slopes::gradient_3;
 pub use slopes::gradient_4;
+pub use slopes::parts_1;
+pub use slopes::parts_2;
+pub use slopes::parts_3;
+pub use table::neighbours;
+pub use table::sums_1;
+pub use table::sums_2;
+pub use table::sums_3;
 
 pub fn mul_add(a: f64, b: f64, c: f64) -> f64
     ensures { λ r. ⌜ r ≡ mulAdd binary64 a b c ⌝ }

@@ -4,8 +4,88 @@ ghost use mathlib.Core.Path.{_≡_};
 ghost use Prim.Native.Nat.{_+_, _*_, _<_};
 ghost use lib.ListN.{length, getD};
 ghost use lib.Ieee.{binary64};
-ghost use Rattle.interp_math.specs.Sum.{dot4 as dot4Of, stored, Square, Filled};
+ghost use mathlib.Core.List.{[], _∷_};
+ghost use Rattle.interp_math.specs.Sum.{dot4 as dot4Of, lanes, across as acrossOf, stored, Square, Filled};
 use crate::dot4;
+
+// Four coefficients side by side.
+pub fn neighbours(coeffs: &[f64], at: usize) -> [f64; 4]
+    requires { ⌜ at + 3 < length (now coeffs) ⌝ }
+    ensures { λ r. ⌜ r ≡ lanes binary64 (now (coeffs .entry)) [] [] 0 at ⌝ }
+{
+    [coeffs[at], coeffs[at + 1], coeffs[at + 2], coeffs[at + 3]]
+}
+
+// The four-term sum of each column. The four sums are worked out together, each with its own operations in the order of
+// `dot4`, so that no bit can change.
+pub fn across(w: &[f64; 4], table: &[[f64; 4]; 4]) -> [f64; 4]
+    ensures { λ r. ⌜ r ≡ acrossOf binary64 (now (w .entry)) (now (table .entry)) ⌝ }
+{
+    [
+        w[1] * table[1][0] + w[0] * table[0][0] + (w[3] * table[3][0] + w[2] * table[2][0]),
+        w[1] * table[1][1] + w[0] * table[0][1] + (w[3] * table[3][1] + w[2] * table[2][1]),
+        w[1] * table[1][2] + w[0] * table[0][2] + (w[3] * table[3][2] + w[2] * table[2][2]),
+        w[1] * table[1][3] + w[0] * table[0][3] + (w[3] * table[3][3] + w[2] * table[2][3]),
+    ]
+}
+
+// Sums over axis 0, side by side.
+pub fn sums_1(coeffs: &[f64], s0: usize, w0: &[f64; 4], at: usize) -> [f64; 4]
+    requires { ⌜ at + 3 * s0 + 3 < length (now coeffs) ⌝ }
+    ensures { λ r. ⌜ r ≡ lanes binary64 (now (coeffs .entry)) (s0 ∷ []) (now (w0 .entry) ∷ []) 1 at ⌝ }
+{
+    let mut table = [[0.0f64; 4]; 4];
+    let mut p: usize = 0;
+    while p < 4 {
+        table[p] = neighbours(coeffs, at + p * s0);
+        p += 1;
+    }
+    across(w0, &table)
+}
+
+// Sums over the axes 0 and 1, side by side.
+pub fn sums_2(
+    coeffs: &[f64],
+    s0: usize,
+    s1: usize,
+    w0: &[f64; 4],
+    w1: &[f64; 4],
+    at: usize,
+) -> [f64; 4]
+    requires { ⌜ at + 3 * (s0 + s1) + 3 < length (now coeffs) ⌝ }
+    ensures { λ r. ⌜ r ≡ lanes binary64 (now (coeffs .entry)) (s0 ∷ s1 ∷ []) (now (w0 .entry) ∷ now (w1 .entry) ∷ []) 2 at ⌝ }
+{
+    let mut table = [[0.0f64; 4]; 4];
+    let mut p: usize = 0;
+    while p < 4 {
+        table[p] = sums_1(coeffs, s0, w0, at + p * s1);
+        p += 1;
+    }
+    across(w1, &table)
+}
+
+// Sums over the axes 0 to 2, side by side.
+pub fn sums_3(
+    coeffs: &[f64],
+    s0: usize,
+    s1: usize,
+    s2: usize,
+    w0: &[f64; 4],
+    w1: &[f64; 4],
+    w2: &[f64; 4],
+    at: usize,
+) -> [f64; 4]
+    requires { ⌜ at + 3 * (s0 + s1 + s2) + 3 < length (now coeffs) ⌝ }
+    ensures { λ r. ⌜ r ≡ lanes binary64 (now (coeffs .entry)) (s0 ∷ s1 ∷ s2 ∷ []) (now (w0 .entry) ∷ now (w1 .entry) ∷ now (w2 .entry) ∷ []) 3 at ⌝ }
+{
+    let mut table = [[0.0f64; 4]; 4];
+    let mut p: usize = 0;
+    while p < 4 {
+        table[p] = sums_2(coeffs, s0, s1, w0, w1, at + p * s2);
+        p += 1;
+    }
+    across(w2, &table)
+}
 
 // Place p of row j: a four-term sum.
 pub fn put_dot(w: [f64; 4], vals: [f64; 4], j: usize, p: usize, table: &mut [[f64; 4]; 4])
