@@ -7,7 +7,7 @@ use borrow.Author.Needs.{needs}
 use Rattle.shape.specs.declared.answers.Refusal.the-variants.{DimensionMismatch}
 use Rattle.evaluation.proofs.Batches.{batch-refused, batch-entries, whole-batch}
 use Rattle.evaluation.proofs.Outcomes.{gradient-checks, gradient-whole, gradient-length, gradient-passed}
-use Rattle.rectilinear_map.specs.Eval.{mapAnswer}
+use Rattle.rectilinear_blocks.specs.Eval.{mapAnswer}
 use Rattle.rectilinear_map.proofs.Checks.{map-numbered, told-sound}
 use Rattle.rectilinear_map.proofs.batch.gradients.Statement.{statement}
 use Rattle.rectilinear_map.proofs.batch.gradients.Tie as tie

@@ -5,7 +5,7 @@ use lib.ListN.{length}
 use lib.Ieee.{binary64}
 use Rattle.evaluation.specs.Axes.{query}
 use Rattle.evaluation.proofs.Entries.{within-by}
-use Rattle.rectilinear_map.proofs.Places.{reaches, gradient-is}
+use Rattle.rectilinear_blocks.proofs.Places.{reaches, gradient-is}
 use Rattle.rectilinear_map.proofs.eval.gradient_at.Statement.{statement}
 use Rattle.rectilinear_map.proofs.eval.gradient_at.Tie as tie
 

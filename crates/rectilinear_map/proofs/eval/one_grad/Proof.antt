@@ -6,7 +6,7 @@ use lib.Ieee.{binary64}
 use borrow.Author.Needs.{needs}
 use Rattle.shape.specs.declared.answers.Refusal.the-variants.{DimensionMismatch}
 use Rattle.evaluation.proofs.Outcomes.{gradient-found, one-gradient-refused, one-checks, one-length, one-gradient-answered}
-use Rattle.rectilinear_map.specs.Eval.{mapAnswer}
+use Rattle.rectilinear_blocks.specs.Eval.{mapAnswer}
 use Rattle.rectilinear_map.proofs.Checks.{map-numbered, told-sound}
 use Rattle.rectilinear_map.proofs.eval.one_grad.Statement.{statement}
 use Rattle.rectilinear_map.proofs.eval.one_grad.Tie as tie

@@ -11,10 +11,10 @@ use Rattle.evaluation.specs.Axes.{query, RowsOn}
 use Rattle.evaluation.proofs.Queries.{in-batch}
 use Rattle.evaluation.proofs.Reach.{Below, below-start, below-small}
 use Rattle.evaluation.proofs.Entries.{query-at, stride-at, rows-none, rows-next}
-use Rattle.rectilinear_map.specs.Map.{ghosts}
-use Rattle.rectilinear_map.specs.Eval.{firstOn, weightsOn}
-use Rattle.rectilinear_map.proofs.Ghosts.{ghosts-at}
-use Rattle.rectilinear_map.proofs.Places.{axis-sound, origin-on, weights-on, first-next, next-below}
+use Rattle.rectilinear_blocks.specs.Map.{ghosts}
+use Rattle.rectilinear_blocks.specs.Eval.{firstOn, weightsOn}
+use Rattle.rectilinear_blocks.proofs.Ghosts.{ghosts-at}
+use Rattle.rectilinear_blocks.proofs.Places.{axis-sound, origin-on, weights-on, first-next, next-below}
 use Rattle.rectilinear_map.proofs.eval.weigh_axes.Statement.{statement}
 use Rattle.rectilinear_map.proofs.eval.weigh_axes.Tie as tie
 

@@ -15,7 +15,7 @@ use Rattle.rectilinear_weights.specs.Weights.{interpWeights, interpWeightDeriva
 use Rattle.knots.specs.Checks.{gridCheck, knotsCheck}
 use Rattle.evaluation.specs.Axes.{rows, valueFrom, gradientFrom}
 use Rattle.evaluation.specs.Spline.{Spline}
-use Rattle.rectilinear_map.specs.Map.{RectilinearMap}
+use Rattle.rectilinear_blocks.specs.Map.{RectilinearMap}
 
 -- ---- one axis
 

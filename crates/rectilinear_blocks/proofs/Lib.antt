@@ -1,0 +1,4 @@
+pub mod Ghosts
+pub mod Places
+pub mod Cells
+pub mod Blocks

@@ -1,0 +1,4 @@
+// Values and gradients of a rectilinear map at a block of queries, and at blocks after each other: for each axis the places of
+// all the queries, then their weights; then the sums. After interpn's multibspline::rectilinear.
+mod axis;
+mod block;
