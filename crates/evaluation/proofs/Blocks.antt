@@ -1,15 +1,20 @@
 -- The rows of a block. Assumes nothing.
 use mathlib.Core.Path.{_≡_, refl, sym, ap, _∙_}
 use mathlib.Core.Logic.{_≢_}
-use mathlib.Core.List.{List, [], _∷_}
-use Prim.Native.Nat.{ℕ, _+_, _*_, _≤_, _<_}
+use mathlib.Core.List.{List, [], _∷_, _++_}
+use Prim.Native.Nat.{ℕ, zero, suc, _+_, _*_, _≤_, _<_}
+use native.Mathlib.Numerals.{add-one}
 use native.Mathlib.Omega.{arith}
-use lib.ListN.{length, getD}
-use lib.Ieee.{Float, nan}
+use lib.ListN.{length, getD, set, length-set, List·getD-append}
+use lib.Ieee.{Float, nan, Format}
 use Rattle.shape.specs.Cells.{put, from}
 use Rattle.shape.proofs.Cells.{length-put, from-in, put-other}
+use Rattle.interp_math.specs.Sum.{summed}
 use Rattle.interp_math.proofs.Four.{four}
-use Rattle.evaluation.specs.Block.{rowAt, withRow}
+use Rattle.interp_math.proofs.Sums.{summed-ext}
+use Rattle.evaluation.specs.Batch.{written}
+use Rattle.evaluation.specs.Block.{rowAt, withRow, Firsts}
+use Rattle.evaluation.proofs.Batches.{written-same}
 
 -- ---- one row replaced
 
@@ -31,3 +36,57 @@ module _ (rows : List Float) (j : ℕ) (row : List Float) where
   row-other k other =
       let cell : (q : ℕ) → ((p : ℕ) → p < 4 → q ≢ 4 * j + p) → getD (put (from (4 * j)) (λ p. getD row p nan) 4 rows) q nan ≡ getD rows q nan = λ q away. put-other (from (4 * j)) (λ p. getD row p nan) 4 rows q nan away in
       rw (cell (4 * k) (λ p h z. omega arith), cell (4 * k + 1) (λ p h z. omega arith), cell (4 * k + 2) (λ p h z. omega arith), cell (4 * k + 3) (λ p h z. omega arith))
+
+-- ---- the first coefficients
+
+pub firsts-less : {firsts : List ℕ} {m r c : ℕ} (r′ : ℕ) → r′ ≤ r → Firsts firsts m r c → Firsts firsts m r′ c
+firsts-less r′ h w = record { within = λ k l. omega (arith, w .within k l, h) }
+
+-- ---- the loop over the entries of a block
+
+pub record Writing (step : ℕ → List Float → List Float) (m : ℕ) (out₀ out : List Float) (k : ℕ) : Type 0 where
+  pub most : k ≤ m
+  pub length-out : length out ≡ length out₀
+  pub values : out ≡ written step k out₀
+
+module _ {step : ℕ → List Float → List Float} {m : ℕ} {out₀ : List Float} where
+  pub writing-start : Writing step m out₀ out₀ 0
+  unfolding written
+  writing-start = record { most = omega arith; length-out = refl; values = refl }
+
+  pub writing-next : {out out′ : List Float} {k : ℕ} → Writing step m out₀ out k → k < m → length out′ ≡ length out → out′ ≡ step k out → Writing step m out₀ out′ (k + 1)
+  unfolding written
+  writing-next {out} {out′} {k} w h len e = record { most = omega arith; length-out = len ∙ w .length-out; values = rw (add-one k) (e ∙ ap (step k) (w .values)) }
+
+  pub writing-done : {out : List Float} {k : ℕ} → Writing step m out₀ out k → m ≤ k → out ≡ written step m out₀
+  writing-done {out} {k} w h =
+      let all : k ≡ m = omega (arith, w .most) in
+      rw all at (w .values)
+
+-- one number an entry
+pub writing-set : (start : ℕ) (v : ℕ → Float) {m : ℕ} {out₀ out : List Float} {k : ℕ} {x : Float} → Writing (λ k o. set o (start + k) (v k)) m out₀ out k → k < m → x ≡ v k
+    → Writing (λ k o. set o (start + k) (v k)) m out₀ (set out (start + k) x) (k + 1)
+writing-set start v {m} {out₀} {out} {k} {x} w h e = writing-next w h (length-set out (start + k) x) (ap (set out (start + k)) e)
+
+-- ---- a sum looks at the strides and weights of the axes in use alone
+
+-- the first four of a list
+abbrev pub fourOf : List ℕ → List ℕ
+fourOf xs = getD xs 0 0 ∷ getD xs 1 0 ∷ getD xs 2 0 ∷ getD xs 3 0 ∷ []
+
+four-at : (xs : List ℕ) (l : ℕ) → l < 4 → getD (fourOf xs) l 0 ≡ getD xs l 0
+four-at xs zero h = refl
+four-at xs (suc zero) h = refl
+four-at xs (suc (suc zero)) h = refl
+four-at xs (suc (suc (suc zero))) h = refl
+four-at xs (suc (suc (suc (suc l)))) h = absurd (omega (arith, h))
+
+module _ (f : Format) (coefs : List Float) (strides ss ts : List ℕ) (j : ℕ) (e : fourOf strides ≡ ss ++ ts) (few : j ≤ length ss) (most : j ≤ 4) where
+  sum-by : (ws ws′ : List (List Float)) (first : ℕ) → ((l : ℕ) → l < j → getD ws l [] ≡ getD ws′ l []) → summed f coefs ss ws j first ≡ summed f coefs strides ws′ j first
+  sum-by ws ws′ first same =
+      summed-ext f coefs ss strides ws ws′ j first
+      (λ l h. sym (List·getD-append ss ts 0 l (omega arith)) ∙ sym (ap (λ (xs : List ℕ). getD xs l 0) e) ∙ four-at strides l (omega arith)) same
+
+  pub values-by : (ws ws′ : ℕ → List (List Float)) (first : ℕ → ℕ) (start m : ℕ) (out : List Float) → ((k l : ℕ) → l < j → getD (ws k) l [] ≡ getD (ws′ k) l [])
+      → written (λ k o. set o (start + k) (summed f coefs ss (ws k) j (first k))) m out ≡ written (λ k o. set o (start + k) (summed f coefs strides (ws′ k) j (first k))) m out
+  values-by ws ws′ first start m out same = written-same _ _ m out (λ k h o. ap (set o (start + k)) (sum-by (ws k) (ws′ k) (first k) (same k)))

@@ -22,6 +22,14 @@ withRow rows j row = put (from (4 * j)) (λ p. getD row p nan) 4 rows
 unfoldable pub weightsOf : List Float → ℕ → ℕ → List (List Float)
 weightsOf rows cap k = rowAt rows k ∷ rowAt rows (cap + k) ∷ rowAt rows (2 * cap + k) ∷ rowAt rows (3 * cap + k) ∷ []
 
+-- from the first coefficient that counts of each of m queries on, and `reach` further, all lie within `coefs`
+pub record Firsts (firsts : List ℕ) (m reach coefs : ℕ) : Type 0 where
+  pub within : (k : ℕ) → k < m → getD firsts k 0 + reach < coefs
+
+-- how far the coefficients of a query reach past the first; unused strides are 0
+abbrev pub reach : List ℕ → ℕ
+reach strides = 3 * (getD strides 0 0 + getD strides 1 0 + getD strides 2 0 + getD strides 3 0)
+
 -- the m entries from `start` on: r of them are written, and then all are done or one is bad
 pub record Block (bad : ℕ → Bool) (step : ℕ → List Float → List Float) (start m : ℕ) (out : List Float) (r : ℕ) (out′ : List Float) : Type 0 where
   pub most : r ≤ m

@@ -4,6 +4,7 @@ mod block;
 mod in_use;
 mod places;
 mod sums;
+mod values;
 
 pub use answers::Gradient;
 pub use answers::Valued;
@@ -16,3 +17,4 @@ pub use places::put_parts;
 pub use places::query;
 pub use sums::gradient_from;
 pub use sums::strides_of;
+pub use values::put_values;
