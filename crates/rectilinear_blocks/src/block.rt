@@ -2,9 +2,13 @@
 // of axis a and query k is row number cap * a + k, in buffers that hold cap queries.
 ghost use mathlib.Core.Path.{_≡_};
 ghost use Prim.Native.Nat.{_+_, _*_, _≤_, _<_};
-ghost use lib.ListN.{length};
+ghost use lib.ListN.{length, take};
 ghost use lib.Ieee.{binary64};
+ghost use Rattle.shape.specs.Shape.{size};
+ghost use Rattle.evaluation.specs.Batch.{badAt, valueStep};
+ghost use Rattle.evaluation.specs.Block.{Block};
 ghost use Rattle.rectilinear_blocks.specs.Map.{RectilinearMap, ghosts};
+ghost use Rattle.rectilinear_blocks.specs.Eval.{rectilinear};
 ghost use Rattle.rectilinear_blocks.specs.Sound.{Gridded, Laid};
 ghost use Rattle.rectilinear_blocks.specs.Axis.{Holds, RowsPut};
 ghost use Rattle.rectilinear_blocks.specs.Block.{zeroAt, countOn, firstAt, weightsFor, slopesFor, InBatch, Weighed};
@@ -12,6 +16,7 @@ use crate::axis::move_firsts;
 use crate::axis::put_counts;
 use crate::axis::put_slopes;
 use crate::axis::put_weights;
+use evaluation::put_values;
 use knots::axis_knots;
 use rectilinear_weights::Ghost;
 
@@ -121,7 +126,7 @@ fn slope_axis(
 }
 
 // All axes: the sums of origin times stride, and the weights.
-pub fn weigh_axes(
+fn weigh_axes(
     count: usize,
     dims: [usize; 4],
     low: [Ghost; 4],
@@ -177,4 +182,179 @@ pub fn weigh_axes(
         );
         a += 1;
     }
+}
+
+// The same, with the slopes too.
+fn weigh_axes_both(
+    count: usize,
+    dims: [usize; 4],
+    low: [Ghost; 4],
+    high: [Ghost; 4],
+    linear: bool,
+    strides: &[usize; 4],
+    grid: &[f64],
+    xs: &[f64],
+    n: usize,
+    from: usize,
+    cap: usize,
+    m: usize,
+    counts: &mut [usize],
+    firsts: &mut [usize],
+    rows: &mut [f64],
+    slopes: &mut [f64],
+)
+    requires { ⌜ Laid count dims (now grid) (now strides) × InBatch count (length (now xs)) n from m ⌝ }
+    requires { ⌜ (m ≤ cap) × (m ≤ length (now counts)) × (m ≤ length (now firsts)) × (4 * (cap * count) ≤ length (now rows)) × (4 * (cap * count) ≤ length (now slopes)) ⌝ }
+    ensures { λ _. ⌜ Holds (firstAt count dims (now (grid .entry)) (now (xs .entry)) n from count) m (now (firsts .exit)) ⌝ }
+    ensures { λ _. ⌜ Weighed (weightsFor binary64 (record { count = count; lens = dims; low = ghosts low; high = ghosts high; linear = linear }) (now (grid .entry)) (now (xs .entry)) n from) cap m count (now (rows .exit)) × Weighed (slopesFor binary64 (record { count = count; lens = dims; low = ghosts low; high = ghosts high; linear = linear }) (now (grid .entry)) (now (xs .entry)) n from) cap m count (now (slopes .exit)) ⌝ }
+{
+    clear_firsts(m, firsts);
+    let mut a: usize = 0;
+    while a < count {
+        place_axis(
+            count,
+            dims,
+            strides,
+            grid,
+            xs,
+            n,
+            from,
+            m,
+            a,
+            counts,
+            firsts,
+        );
+        weigh_axis(
+            count,
+            dims,
+            low,
+            high,
+            linear,
+            grid,
+            xs,
+            n,
+            from,
+            cap,
+            m,
+            a,
+            counts,
+            rows,
+        );
+        slope_axis(
+            count,
+            dims,
+            low,
+            high,
+            linear,
+            grid,
+            xs,
+            n,
+            from,
+            cap,
+            m,
+            a,
+            counts,
+            slopes,
+        );
+        a += 1;
+    }
+}
+
+// The first axis alone, where only its slopes are asked for.
+fn slope_first(
+    count: usize,
+    dims: [usize; 4],
+    low: [Ghost; 4],
+    high: [Ghost; 4],
+    linear: bool,
+    strides: &[usize; 4],
+    grid: &[f64],
+    xs: &[f64],
+    n: usize,
+    from: usize,
+    cap: usize,
+    m: usize,
+    counts: &mut [usize],
+    firsts: &mut [usize],
+    slopes: &mut [f64],
+)
+    requires { ⌜ Laid count dims (now grid) (now strides) × InBatch count (length (now xs)) n from m ⌝ }
+    requires { ⌜ (m ≤ cap) × (m ≤ length (now counts)) × (m ≤ length (now firsts)) × (4 * (cap * count) ≤ length (now slopes)) ⌝ }
+    ensures { λ _. ⌜ Holds (firstAt count dims (now (grid .entry)) (now (xs .entry)) n from 1) m (now (firsts .exit)) ⌝ }
+    ensures { λ _. ⌜ Weighed (slopesFor binary64 (record { count = count; lens = dims; low = ghosts low; high = ghosts high; linear = linear }) (now (grid .entry)) (now (xs .entry)) n from) cap m 1 (now (slopes .exit)) ⌝ }
+{
+    clear_firsts(m, firsts);
+    place_axis(
+        count,
+        dims,
+        strides,
+        grid,
+        xs,
+        n,
+        from,
+        m,
+        0,
+        counts,
+        firsts,
+    );
+    slope_axis(
+        count,
+        dims,
+        low,
+        high,
+        linear,
+        grid,
+        xs,
+        n,
+        from,
+        cap,
+        m,
+        0,
+        counts,
+        slopes,
+    );
+}
+
+// The values of the block, entries `from` to `from + m` of `out`.
+pub fn values_block(
+    count: usize,
+    dims: [usize; 4],
+    low: [Ghost; 4],
+    high: [Ghost; 4],
+    linear: bool,
+    strides: &[usize; 4],
+    grid: &[f64],
+    coeffs: &[f64],
+    xs: &[f64],
+    n: usize,
+    from: usize,
+    cap: usize,
+    m: usize,
+    counts: &mut [usize],
+    firsts: &mut [usize],
+    rows: &mut [f64],
+    out: &mut [f64],
+)
+    requires { ⌜ Laid count dims (now grid) (now strides) × (length (now coeffs) ≡ size (take count dims)) × InBatch count (length (now xs)) n from m × (from + m ≤ length (now out)) ⌝ }
+    requires { ⌜ (m ≤ cap) × (m ≤ length (now counts)) × (m ≤ length (now firsts)) × (4 * (cap * count) ≤ length (now rows)) ⌝ }
+    ensures { λ _. ⌜ Block (badAt (rectilinear binary64 (record { count = count; lens = dims; low = ghosts low; high = ghosts high; linear = linear }) (now (grid .entry)) (now (coeffs .entry))) (now (xs .entry)) n) (valueStep (rectilinear binary64 (record { count = count; lens = dims; low = ghosts low; high = ghosts high; linear = linear }) (now (grid .entry)) (now (coeffs .entry))) (now (xs .entry)) n) from m (now (out .entry)) m (now (out .exit)) ⌝ }
+{
+    weigh_axes(
+        count,
+        dims,
+        low,
+        high,
+        linear,
+        strides,
+        grid,
+        xs,
+        n,
+        from,
+        cap,
+        m,
+        counts,
+        firsts,
+        rows,
+    );
+    put_values(count, strides, coeffs, firsts, rows, cap, from, m, out);
 }
