@@ -77,7 +77,7 @@ module _ (f : Format) (coefs : List Float) (strides : List ℕ) (count first : �
 
   -- and so does each part of the gradient
   module _ (slope : ℕ → List Float) {ss : List (List Float)} (s : RowsOn count slope ss) where
-    part-rows : (k : ℕ) → k < count → gradientPart f coefs strides ws ss count first k ≡ gradientPart f coefs strides (rows count weight) (rows count slope) count first k
+    pub part-rows : (k : ℕ) → k < count → gradientPart f coefs strides ws ss count first k ≡ gradientPart f coefs strides (rows count weight) (rows count slope) count first k
     unfolding gradientPart
     part-rows k hk = summed-ext f coefs strides strides _ _ count first (λ l h. refl) (λ l h. go l h (eqb l k) refl)
       where
