@@ -8,8 +8,8 @@ use native.Mathlib.Omega.{arith}
 use lib.ListN.{length, getD, set, length-set, List·getD-append}
 use lib.Ieee.{Float, nan, Format}
 use Rattle.shape.specs.Cells.{put, from}
-use Rattle.shape.proofs.Cells.{length-put, from-in, put-other}
-use Rattle.interp_math.specs.Sum.{summed}
+use Rattle.shape.proofs.Cells.{length-put, from-in, put-other, put-ext}
+use Rattle.interp_math.specs.Sum.{summed, gradientPart}
 use Rattle.interp_math.proofs.Four.{four}
 use Rattle.interp_math.proofs.Sums.{summed-ext}
 use Rattle.evaluation.specs.Batch.{written}
@@ -42,6 +42,11 @@ module _ (rows : List Float) (j : ℕ) (row : List Float) where
 pub firsts-less : {firsts : List ℕ} {m r c : ℕ} (r′ : ℕ) → r′ ≤ r → Firsts firsts m r c → Firsts firsts m r′ c
 firsts-less r′ h w = record { within = λ k l. omega (arith, w .within k l, h) }
 
+-- ---- the parts of one gradient
+
+pub part-next : (g : ℕ → Float) (l : List Float) (n at i : ℕ) {r : List Float} {x : Float} {p : ℕ} → p ≡ i * n + at → x ≡ g i → r ≡ put (λ j. j * n + at) g i l → set r p x ≡ put (λ j. j * n + at) g (suc i) l
+part-next g l n at i e v w = rw (e, v, w)
+
 -- ---- the loop over the entries of a block
 
 pub record Writing (step : ℕ → List Float → List Float) (m : ℕ) (out₀ out : List Float) (k : ℕ) : Type 0 where
@@ -68,6 +73,11 @@ pub writing-set : (start : ℕ) (v : ℕ → Float) {m : ℕ} {out₀ out : List
     → Writing (λ k o. set o (start + k) (v k)) m out₀ (set out (start + k) x) (k + 1)
 writing-set start v {m} {out₀} {out} {k} {x} w h e = writing-next w h (length-set out (start + k) x) (ap (set out (start + k)) e)
 
+-- the parts of a gradient
+pub writing-put : (start n count : ℕ) (g : ℕ → ℕ → Float) {m : ℕ} {out₀ out out′ : List Float} {k : ℕ} → Writing (λ k o. put (λ j. j * n + (start + k)) (g k) count o) m out₀ out k → k < m
+    → out′ ≡ put (λ j. j * n + (start + k)) (g k) count out → Writing (λ k o. put (λ j. j * n + (start + k)) (g k) count o) m out₀ out′ (k + 1)
+writing-put start n count g {m} {out₀} {out} {out′} {k} w h e = writing-next w h (rw e (length-put (λ j. j * n + (start + k)) (g k) count out)) e
+
 -- ---- a sum looks at the strides and weights of the axes in use alone
 
 -- the first four of a list
@@ -90,3 +100,10 @@ module _ (f : Format) (coefs : List Float) (strides ss ts : List ℕ) (j : ℕ) 
   pub values-by : (ws ws′ : ℕ → List (List Float)) (first : ℕ → ℕ) (start m : ℕ) (out : List Float) → ((k l : ℕ) → l < j → getD (ws k) l [] ≡ getD (ws′ k) l [])
       → written (λ k o. set o (start + k) (summed f coefs ss (ws k) j (first k))) m out ≡ written (λ k o. set o (start + k) (summed f coefs strides (ws′ k) j (first k))) m out
   values-by ws ws′ first start m out same = written-same _ _ m out (λ k h o. ap (set o (start + k)) (sum-by (ws k) (ws′ k) (first k) (same k)))
+
+  pub gradients-by : (ws ds : ℕ → List (List Float)) (first : ℕ → ℕ) (start n m : ℕ) (out : List Float)
+      → written (λ k o. put (λ i. i * n + (start + k)) (λ i. gradientPart f coefs ss (ws k) (ds k) j (first k) i) j o) m out
+      ≡ written (λ k o. put (λ i. i * n + (start + k)) (λ i. gradientPart f coefs strides (ws k) (ds k) j (first k) i) j o) m out
+  unfolding gradientPart
+  gradients-by ws ds first start n m out =
+      written-same _ _ m out (λ k h o. put-ext (λ i. i * n + (start + k)) _ _ j o (λ i q. sum-by _ _ (first k) (λ l g. refl)))

@@ -1,6 +1,7 @@
 // What evaluating a map is on either grid: the coordinates of a query, the sums over the coefficients that count, the answers.
 mod answers;
 mod block;
+mod gradients;
 mod in_use;
 mod places;
 mod sums;
@@ -11,6 +12,7 @@ pub use answers::Valued;
 pub use answers::refused_gradient;
 pub use block::put_row;
 pub use block::row;
+pub use gradients::put_gradients;
 pub use in_use::used_floats;
 pub use in_use::used_lens;
 pub use places::put_parts;
