@@ -12,8 +12,7 @@ use lib.Ieee.{Float, Format, nan}
 use Rattle.shape.specs.Checks.{mostPoints}
 use Rattle.shape.specs.Sizes.{strideOf}
 use Rattle.knots.specs.Joined.{knotsOf}
-use Rattle.evaluation.specs.Axes.{query, RowsOn}
-use Rattle.evaluation.specs.Block.{rowAt, weightsOf}
+use Rattle.evaluation.specs.Axes.{query}
 use Rattle.evaluation.proofs.Entries.{query-at}
 use Rattle.evaluation.proofs.Reach.{below-small}
 use Rattle.rectilinear_blocks.specs.Map.{RectilinearMap}
@@ -96,15 +95,3 @@ weighed-next {cap = cap} {a = a} few w p =
         | inr q ↦ p .before (cap * b + k) (omega (arith, mul-le-mul-left cap q)) ∙ w .at b k q l
       ];
     }
-
--- the table of one query
-pub weighed-rows : {row : ℕ → ℕ → List Float} {cap m count : ℕ} {rows : List Float} → count ≤ 4 → Weighed row cap m count rows → (k : ℕ) → k < m → RowsOn count (λ a. row a k) (weightsOf rows cap k)
-unfolding weightsOf
-weighed-rows {row} {cap} {m} {count} {rows} few w k l = record { four = refl; at = go }
-  where
-    go : (a : ℕ) → a < count → getD (weightsOf rows cap k) a [] ≡ row a k
-    go zero h = let e : cap * 0 + k ≡ k = omega arith in rw e at (w .at 0 k h l)
-    go (suc zero) h = let e : cap * 1 + k ≡ cap + k = omega arith in rw e at (w .at 1 k h l)
-    go (suc (suc zero)) h = let e : cap * 2 + k ≡ 2 * cap + k = omega arith in rw e at (w .at 2 k h l)
-    go (suc (suc (suc zero))) h = let e : cap * 3 + k ≡ 3 * cap + k = omega arith in rw e at (w .at 3 k h l)
-    go (suc (suc (suc (suc a)))) h = absurd (let q : ⊥ = omega (arith, h, few) in q)

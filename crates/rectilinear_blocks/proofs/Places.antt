@@ -21,8 +21,9 @@ use Rattle.rectilinear_weights.specs.Basis.{basisSpanWeights}
 use Rattle.rectilinear_weights.specs.Weights.{interpWeights, interpWeightDerivatives}
 use Rattle.rectilinear_weights.proofs.Inner.{inner-interp}
 use Rattle.interp_math.specs.Sum.{summed, gradientPart}
-use Rattle.evaluation.specs.Axes.{strides, parts, Reaches, RowsOn}
-use Rattle.evaluation.proofs.Entries.{value-rows, gradient-rows}
+use Rattle.evaluation.specs.Axes.{strides, rows, Reaches, RowsOn}
+use Rattle.evaluation.proofs.Blocks.{slope-alone}
+use Rattle.evaluation.proofs.Entries.{value-rows, part-rows}
 use Rattle.evaluation.proofs.Reach.{Below, below-start, below-next, below-reaches}
 use Rattle.rectilinear_blocks.specs.Map.{RectilinearMap}
 use Rattle.rectilinear_blocks.specs.Eval.{locOn, firstOn, weightsOn, slopesOn, valueAt, partAt}
@@ -83,14 +84,24 @@ module _ (count : ℕ) (lens : List ℕ) (grid x : List Float) where
 
 -- ---- the figures of a map, by the strides and the rows that were worked out
 
-module _ (f : Format) (m : RectilinearMap) (grid coefs x : List Float) {first : ℕ} (ef : first ≡ firstOn (m .count) (m .lens) grid x (m .count)) {ss : List ℕ} (es : ss ≡ strides (m .count) (m .lens)) (few : m .count ≤ 4) {ws : List (List Float)} (w : RowsOn (m .count) (weightsOn f m grid x) ws) where
-  pub value-is : {v : Float} → v ≡ summed f coefs ss ws (m .count) first → v ≡ valueAt f m grid coefs x
-  unfolding valueAt
-  value-is e = rw (← ef) (rw es at e ∙ value-rows f coefs (strides (m .count) (m .lens)) (m .count) first few (weightsOn f m grid x) w)
+-- over one axis the slopes stand in the place of the weights
+slope-sum : (f : Format) (coefs : List Float) (ss : List ℕ) (first count : ℕ) (weight slope : ℕ → List Float) {ds : List (List Float)} → count ≡ 1 → RowsOn count slope ds
+    → summed f coefs ss ds count first ≡ gradientPart f coefs ss (rows count weight) (rows count slope) count first 0
+slope-sum f coefs ss first count weight slope {ds} one d = let own = d .at 0 (omega arith) in rw one (slope-alone f coefs ss (rows 1 weight) (rows 1 slope) ds first (omega arith) own)
 
-  pub gradient-is : {ds : List (List Float)} {ps : List Float} → RowsOn (m .count) (slopesOn f m grid x) ds → ps ≡ parts (m .count) (gradientPart f coefs ss ws ds (m .count) first) → ps ≡ parts (m .count) (partAt f m grid coefs x)
+module _ (f : Format) (m : RectilinearMap) (grid coefs x : List Float) {first : ℕ} (ef : first ≡ firstOn (m .count) (m .lens) grid x (m .count)) {ss : List ℕ} (es : ss ≡ strides (m .count) (m .lens)) where
+  pub value-is : m .count ≤ 4 → {ws : List (List Float)} → RowsOn (m .count) (weightsOn f m grid x) ws → {v : Float} → v ≡ summed f coefs ss ws (m .count) first → v ≡ valueAt f m grid coefs x
+  unfolding valueAt
+  value-is few w e = rw (← ef) (rw es at e ∙ value-rows f coefs (strides (m .count) (m .lens)) (m .count) first few (weightsOn f m grid x) w)
+
+  pub part-is : m .count ≤ 4 → {ws ds : List (List Float)} → RowsOn (m .count) (weightsOn f m grid x) ws → RowsOn (m .count) (slopesOn f m grid x) ds → (k : ℕ) → k < m .count → {v : Float} → v ≡ gradientPart f coefs ss ws ds (m .count) first k
+      → v ≡ partAt f m grid coefs x k
   unfolding partAt
-  gradient-is d e = rw (← ef) (rw es at e ∙ gradient-rows f coefs (strides (m .count) (m .lens)) (m .count) first few (weightsOn f m grid x) w (slopesOn f m grid x) d)
+  part-is few w d k h e = rw (← ef) (rw es at e ∙ part-rows f coefs (strides (m .count) (m .lens)) (m .count) first few (weightsOn f m grid x) w (slopesOn f m grid x) d k h)
+
+  pub slope-is : m .count ≡ 1 → {ds : List (List Float)} → RowsOn (m .count) (slopesOn f m grid x) ds → {v : Float} → v ≡ summed f coefs ss ds (m .count) first → v ≡ partAt f m grid coefs x 0
+  unfolding partAt
+  slope-is one d e = rw (← ef) (rw es at e ∙ slope-sum f coefs (strides (m .count) (m .lens)) first (m .count) (weightsOn f m grid x) (slopesOn f m grid x) one d)
 
 -- what was found on axis a, by the part ks of the grid and the coordinate y
 pub origin-on : (count : ℕ) (lens : List ℕ) (grid x : List Float) (a : ℕ) {ks : List Float} {y : Float} {o : ℕ} → ks ≡ knotsOf grid (take count lens) a → y ≡ getD x a nan → o ≡ getLoc ks y .origin → o ≡ locOn count lens grid x a .origin

@@ -5,7 +5,7 @@ ghost use Prim.Native.Nat.{_+_, _*_, _≤_, _<_};
 ghost use lib.ListN.{length, take};
 ghost use lib.Ieee.{binary64};
 ghost use Rattle.shape.specs.Shape.{size};
-ghost use Rattle.evaluation.specs.Batch.{badAt, valueStep};
+ghost use Rattle.evaluation.specs.Batch.{badAt, valueStep, gradientStep};
 ghost use Rattle.evaluation.specs.Block.{Block};
 ghost use Rattle.rectilinear_blocks.specs.Map.{RectilinearMap, ghosts};
 ghost use Rattle.rectilinear_blocks.specs.Eval.{rectilinear};
@@ -16,6 +16,7 @@ use crate::axis::move_firsts;
 use crate::axis::put_counts;
 use crate::axis::put_slopes;
 use crate::axis::put_weights;
+use evaluation::put_gradients;
 use evaluation::put_values;
 use knots::axis_knots;
 use rectilinear_weights::Ghost;
@@ -357,4 +358,83 @@ pub fn values_block(
         rows,
     );
     put_values(count, strides, coeffs, firsts, rows, cap, from, m, out);
+}
+
+// The gradients of the block: part j of entry i at j * n + i of `out`. Over one axis the slopes take the place of the weights.
+pub fn gradients_block(
+    count: usize,
+    dims: [usize; 4],
+    low: [Ghost; 4],
+    high: [Ghost; 4],
+    linear: bool,
+    strides: &[usize; 4],
+    grid: &[f64],
+    coeffs: &[f64],
+    xs: &[f64],
+    n: usize,
+    from: usize,
+    cap: usize,
+    m: usize,
+    counts: &mut [usize],
+    firsts: &mut [usize],
+    rows: &mut [f64],
+    slopes: &mut [f64],
+    out: &mut [f64],
+)
+    requires { ⌜ Laid count dims (now grid) (now strides) × (length (now coeffs) ≡ size (take count dims)) × InBatch count (length (now xs)) n from m × (count * n ≤ length (now out)) ⌝ }
+    requires { ⌜ (m ≤ cap) × (m ≤ length (now counts)) × (m ≤ length (now firsts)) × (4 * (cap * count) ≤ length (now rows)) × (4 * (cap * count) ≤ length (now slopes)) ⌝ }
+    ensures { λ _. ⌜ Block (badAt (rectilinear binary64 (record { count = count; lens = dims; low = ghosts low; high = ghosts high; linear = linear }) (now (grid .entry)) (now (coeffs .entry))) (now (xs .entry)) n) (gradientStep (rectilinear binary64 (record { count = count; lens = dims; low = ghosts low; high = ghosts high; linear = linear }) (now (grid .entry)) (now (coeffs .entry))) (now (xs .entry)) n) from m (now (out .entry)) m (now (out .exit)) ⌝ }
+{
+    if count == 1 {
+        slope_first(
+            count,
+            dims,
+            low,
+            high,
+            linear,
+            strides,
+            grid,
+            xs,
+            n,
+            from,
+            cap,
+            m,
+            counts,
+            firsts,
+            slopes,
+        );
+        put_values(count, strides, coeffs, firsts, slopes, cap, from, m, out);
+        return;
+    }
+    weigh_axes_both(
+        count,
+        dims,
+        low,
+        high,
+        linear,
+        strides,
+        grid,
+        xs,
+        n,
+        from,
+        cap,
+        m,
+        counts,
+        firsts,
+        rows,
+        slopes,
+    );
+    put_gradients(
+        count,
+        strides,
+        coeffs,
+        firsts,
+        rows,
+        slopes,
+        cap,
+        n,
+        from,
+        m,
+        out,
+    );
 }

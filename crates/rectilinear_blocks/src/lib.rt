@@ -4,5 +4,7 @@ mod axis;
 mod batch;
 mod block;
 
+pub use batch::gradient_at;
+pub use batch::put_gradients;
 pub use batch::put_values;
 pub use batch::value_at;

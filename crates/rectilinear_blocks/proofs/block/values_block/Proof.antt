@@ -2,7 +2,8 @@ use native.Mathlib.Omega.{arith}
 use denote.Ref.{now}
 use lib.Ieee.{binary64}
 use borrow.Author.Needs.{needs}
-use Rattle.rectilinear_blocks.proofs.Figures.{last-stride, firsts-reach, block-values}
+use Rattle.evaluation.proofs.Entries.{last-stride}
+use Rattle.rectilinear_blocks.proofs.Figures.{ready, firsts-reach, block-values}
 use Rattle.rectilinear_blocks.proofs.block.values_block.Statement.{statement}
 use Rattle.rectilinear_blocks.proofs.block.values_block.Tie as tie
 
@@ -15,7 +16,7 @@ put-values-requires c κs =
     let u = r .gridded .shape in (
       u .some-axis,
       u .at-most-four,
-      last-stride (a .count) (a .dims) (r .four) u (r .strides-are),
+      last-stride (ready r),
       s .pre .1 .0,
       omega (arith, s .pre .1 .2, w .weigh-axes .kept .1 .1 .1 .1 .1 .1 .1 .1 .1 .1 .1 .1 .1 .0),
       omega (arith, s .pre .1 .3, w .weigh-axes .kept .1 .1 .1 .1 .1 .1 .1 .1 .1 .1 .1 .1 .1 .1 .0),
