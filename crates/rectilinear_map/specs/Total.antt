@@ -6,19 +6,10 @@ use mathlib.Core.List.{List}
 use Prim.Native.Nat.{ℕ, _*_, _%_}
 use lib.ListN.{length}
 use lib.Ieee.{Float, Format}
-use Rattle.knots.specs.Joined.{offsets}
-use Rattle.evaluation.specs.Axes.{strides}
-use Rattle.rectilinear_blocks.specs.Sound.{Gridded, Sound}
 use Rattle.evaluation.specs.Spline.{oneAnswer, batchAnswer, gradientBatchAnswer}
 use Rattle.rectilinear_blocks.specs.Map.{RectilinearMap}
 use Rattle.rectilinear_blocks.specs.Eval.{mapAnswer, rectilinear}
-
--- what the functions that evaluate a query are handed: strides and offsets worked out
-pub record Laid (count : ℕ) (lens : List ℕ) (grid : List Float) (ss from : List ℕ) : Type 0 where
-  pub gridded : Gridded count lens grid
-  pub four : length lens ≡ 4
-  pub strides-are : ss ≡ strides count lens
-  pub offsets-are : from ≡ offsets count lens
+use Rattle.rectilinear_blocks.specs.Sound.{Sound}
 
 -- building, and the checks of every call
 abbrev pub MapTotal : Type 0
