@@ -21,9 +21,10 @@ use Rattle.evaluation.proofs.Outcomes.{gradient-written}
 use Rattle.multibspline.specs.Numbers.{f0}
 use Rattle.regular_blocks.specs.Map.{RegularMap}
 use Rattle.regular_blocks.specs.Checks.{anyStepBad, mapAnswer, fromValuesAnswer, regular}
-use Rattle.rectilinear_map.specs.Map.{RectilinearMap, made, blank}
+use Rattle.rectilinear_blocks.specs.Map.{RectilinearMap}
+use Rattle.rectilinear_map.specs.Map.{made, blank}
 use Rattle.knots.specs.Checks.{gridCheck}
-use Rattle.rectilinear_map.specs.Eval.{gridAnswer, mapChecks, rectilinear}
+use Rattle.rectilinear_blocks.specs.Eval.{gridAnswer, mapChecks, rectilinear}
 use Rattle.capi_parts.specs.Inputs.{lensOf, shapeOf, fourFrom}
 use Rattle.capi_parts.specs.Outputs.{Wrote, Handed}
 use Rattle.capi_parts.specs.Splines.{withSlopes}

@@ -5,8 +5,9 @@ use Prim.Native.Nat.{ℕ}
 use lib.ListN.{length}
 use lib.Ieee.{Float, Format}
 use Rattle.evaluation.specs.Spline.{Spline}
-use Rattle.rectilinear_map.specs.Map.{RectilinearMap, lowGhosts, highGhosts}
-use Rattle.rectilinear_map.specs.Eval.{rectilinear}
+use Rattle.rectilinear_blocks.specs.Map.{RectilinearMap}
+use Rattle.rectilinear_map.specs.Map.{lowGhosts, highGhosts}
+use Rattle.rectilinear_blocks.specs.Eval.{rectilinear}
 use Rattle.capi_parts.specs.Inputs.{lensOf}
 
 -- with the ghost numbers that its knots give

@@ -7,7 +7,7 @@ ghost use Rattle.shape.specs.Checks.{firstRefusal};
 ghost use Rattle.shape.specs.Refusal.{answerNumber};
 ghost use Rattle.regular_map.specs.Map as Regular;
 ghost use Rattle.rectilinear_map.specs.Map.{mapOf};
-ghost use Rattle.rectilinear_map.specs.Eval.{gridAnswer};
+ghost use Rattle.rectilinear_blocks.specs.Eval.{gridAnswer};
 ghost use Rattle.capi_parts.specs.Inputs.{lensOf, isOn};
 ghost use Rattle.capi_parts.specs.Outputs.{Handed};
 ghost use Rattle.capi_parts.specs.Regular.{readyChecks, regularMap};

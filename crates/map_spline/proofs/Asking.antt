@@ -21,9 +21,9 @@ use Rattle.evaluation.specs.declared.answers.Valued.the-variants.{Value, Refuse
 use Rattle.regular_blocks.specs.Map.{RegularMap}
 use Rattle.regular_blocks.specs.Checks.{regular}
 use Rattle.regular_map.proofs.Total as Regular
-use Rattle.rectilinear_map.specs.Map.{RectilinearMap}
-use Rattle.rectilinear_map.specs.Eval.{rectilinear}
-use Rattle.rectilinear_map.specs.Total.{Gridded}
+use Rattle.rectilinear_blocks.specs.Map.{RectilinearMap}
+use Rattle.rectilinear_blocks.specs.Eval.{rectilinear}
+use Rattle.rectilinear_blocks.specs.Sound.{Gridded}
 use Rattle.rectilinear_map.proofs.Total as Rectilinear
 use Rattle.map_spline.specs.Surface.{Surface, Replied}
 

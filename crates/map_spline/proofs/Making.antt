@@ -28,7 +28,7 @@ use Rattle.regular_map.proofs.Builds.{values-passed}
 use Rattle.rectilinear.specs.Fit.{rectilinearFit, rectilinearFitChecks}
 use Rattle.rectilinear.proofs.FitChecks as RectilinearFit
 use Rattle.rectilinear_map.specs.Map as Rectilinear
-use Rattle.rectilinear_map.specs.Map.{RectilinearMap}
+use Rattle.rectilinear_blocks.specs.Map.{RectilinearMap}
 use Rattle.map_spline.specs.Surface.{Surface, regularSurface, rectilinearSurface, regularOf, rectilinearOf, regularNumber, rectilinearNumber, Lent, MadeFrom}
 use Rattle.map_spline.proofs.Axes.{in-use, query-in-use, query-take}
 

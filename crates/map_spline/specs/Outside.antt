@@ -11,7 +11,7 @@ use Rattle.multibspline.specs.declared.saturation.Saturation.the-variants.{None
 use Rattle.regular_weights.specs.declared.place.Loc.{Loc}
 use Rattle.regular_weights.specs.declared.place.Loc.the-variants.{At, Unrepresentable}
 use Rattle.regular_weights.specs.Place.{getLoc}
-use Rattle.rectilinear_map.specs.Eval.{locOn}
+use Rattle.rectilinear_blocks.specs.Eval.{locOn}
 
 abbrev pub isOutside : Saturation → Bool
 isOutside None = false

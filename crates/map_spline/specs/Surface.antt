@@ -19,8 +19,8 @@ use Rattle.regular_map.specs.Map as Regular
 use Rattle.regular_blocks.specs.Map.{RegularMap}
 use Rattle.regular_blocks.specs.Checks.{anyStepBad, regular}
 use Rattle.rectilinear_map.specs.Map as Rectilinear
-use Rattle.rectilinear_map.specs.Map.{RectilinearMap}
-use Rattle.rectilinear_map.specs.Eval.{rectilinear}
+use Rattle.rectilinear_blocks.specs.Map.{RectilinearMap}
+use Rattle.rectilinear_blocks.specs.Eval.{rectilinear}
 use Rattle.map_fields.specs.Head.{Head}
 use Rattle.map_spline.specs.Outside.{regularOutside, rectilinearOutside}
 use Rattle.map_spline.specs.declared.build.Map.{Map}

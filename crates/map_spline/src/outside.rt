@@ -5,7 +5,7 @@ ghost use lib.ListN.{length};
 ghost use lib.Ieee.{binary64};
 ghost use Rattle.shape.specs.Usable.{Usable};
 ghost use Rattle.regular_weights.specs.Place.{getLoc};
-ghost use Rattle.rectilinear_map.specs.Total.{Gridded};
+ghost use Rattle.rectilinear_blocks.specs.Sound.{Gridded};
 ghost use Rattle.map_spline.specs.Outside.{isOutside, isOutsideLoc, rectilinearAxisOutside, regularOutside, rectilinearOutside};
 use multibspline::Saturation;
 use regular_weights::Loc;

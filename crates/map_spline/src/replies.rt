@@ -6,7 +6,7 @@ ghost use Rattle.shape.specs.Refusal.{refusalNumber};
 ghost use Rattle.evaluation.specs.Axes.{zeros};
 ghost use Rattle.regular_map.specs.Map as Regular;
 ghost use Rattle.rectilinear_map.specs.Map as Rectilinear;
-ghost use Rattle.rectilinear_map.specs.Map.{ghosts};
+ghost use Rattle.rectilinear_blocks.specs.Map.{ghosts};
 ghost use Rattle.map_spline.specs.Surface.{regularSurface, rectilinearSurface, surfaceOf, Replied};
 use crate::build::Map;
 use crate::outside::rectilinear_outside;

@@ -20,8 +20,8 @@ use Rattle.knots.specs.Joined.{total, allRise}
 use Rattle.knots.specs.Checks.{gridCheck, knotsCheck}
 use Rattle.rectilinear.specs.Fit.{rectilinearFitChecks}
 use Rattle.rectilinear.proofs.Total.{fit-range, accepted-rise}
-use Rattle.rectilinear_map.specs.Eval.{gridAnswer, mapChecks, mapAnswer}
-use Rattle.rectilinear_map.specs.Total.{Gridded, Sound}
+use Rattle.rectilinear_blocks.specs.Eval.{gridAnswer, mapChecks, mapAnswer}
+use Rattle.rectilinear_blocks.specs.Sound.{Gridded, Sound}
 
 -- ---- from a grid alone
 

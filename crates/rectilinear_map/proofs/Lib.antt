@@ -1,5 +1,2 @@
 pub mod Checks
-pub mod Ghosts
-pub mod Places
-pub mod Batches
 pub mod Total

@@ -6,9 +6,10 @@ use Prim.Native.Nat.{ℕ, _*_, _%_}
 use lib.ListN.{length}
 use lib.Ieee.{Float, Format}
 use Rattle.evaluation.proofs.Total as Calls
-use Rattle.rectilinear_map.specs.Map.{RectilinearMap}
-use Rattle.rectilinear_map.specs.Eval.{mapAnswer, rectilinear}
-use Rattle.rectilinear_map.specs.Total.{Sound, MapTotal, OneTotal, BatchTotal, GradientBatchTotal}
+use Rattle.rectilinear_blocks.specs.Map.{RectilinearMap}
+use Rattle.rectilinear_blocks.specs.Eval.{mapAnswer, rectilinear}
+use Rattle.rectilinear_blocks.specs.Sound.{Sound}
+use Rattle.rectilinear_map.specs.Total.{MapTotal, OneTotal, BatchTotal, GradientBatchTotal}
 use Rattle.rectilinear_map.proofs.Checks.{map-numbered, map-sound, sound-accepted}
 
 pub map-total : MapTotal

@@ -1,3 +1,2 @@
 pub mod Map
-pub mod Eval
 pub mod Total

@@ -1,4 +1,4 @@
--- A rectilinear map by its parts, for any format; and what the functions that build one leave. Assumes nothing.
+-- The map that a record stands for, and what the functions that build one leave. Assumes nothing.
 use mathlib.Core.Bool.{Bool, false}
 use mathlib.Core.List.{List, [], _∷_}
 use Prim.Native.Nat.{ℕ}
@@ -7,25 +7,12 @@ use lib.Ieee.{Float, Format}
 use Rattle.multibspline.specs.Numbers.{f0}
 use Rattle.shape.specs.Refusal.{answerNumber}
 use Rattle.knots.specs.Joined.{knotsOf}
-use Rattle.rectilinear_weights.specs.declared.ghosts.Ghost.{Ghost}
-use Rattle.rectilinear_weights.specs.Ghosts.{ghostNumbers, lowGhostCoeffs, highGhostCoeffs}
+use Rattle.rectilinear_weights.specs.Ghosts.{lowGhostCoeffs, highGhostCoeffs}
 use Rattle.evaluation.specs.Axes.{perAxis, inUse}
+use Rattle.rectilinear_blocks.specs.Map.{RectilinearMap, ghosts}
 use Rattle.evaluation.specs.Built.{BuiltFrom}
 use Rattle.rectilinear_map.specs.declared.record.MultiBsplineRectilinear.{MultiBsplineRectilinear}
 use Rattle.rectilinear_map.specs.declared.record.Built.{Built}
-
--- axis count and four lengths; the ghost numbers of the low and of the high end of each axis, three an end; whether the map
--- goes on in a straight line outside its grid. The joined grid is lent beside it
-pub record RectilinearMap : Type 0 where
-  pub count : ℕ
-  pub lens : List ℕ
-  pub low : List (List Float)
-  pub high : List (List Float)
-  pub linear : Bool
-
-unfoldable pub ghosts : List Ghost → List (List Float)
-ghosts [] = []
-ghosts (g ∷ gs) = ghostNumbers g ∷ ghosts gs
 
 -- the map that a record of the code stands for
 abbrev pub mapOf : MultiBsplineRectilinear → RectilinearMap

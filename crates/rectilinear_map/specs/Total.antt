@@ -1,37 +1,15 @@
 -- Demand 1 for the calls on a rectilinear map: when each is accepted. Which refusal is given otherwise is the first check that
 -- fails, by `firstRefusal`; `FirstFails` of shape/specs/Checks.antt says so check by check. Assumes nothing.
 use mathlib.Core.Path.{_≡_}
-use mathlib.Core.Bool.{true}
 use mathlib.Core.Logic.{_↔_}
 use mathlib.Core.List.{List}
 use Prim.Native.Nat.{ℕ, _*_, _%_}
-use lib.ListN.{length, take}
+use lib.ListN.{length}
 use lib.Ieee.{Float, Format}
-use Rattle.shape.specs.Shape.{size}
-use Rattle.shape.specs.Usable.{Usable}
-use Rattle.knots.specs.Joined.{total, offsets, allRise}
-use Rattle.evaluation.specs.Axes.{strides}
 use Rattle.evaluation.specs.Spline.{oneAnswer, batchAnswer, gradientBatchAnswer}
-use Rattle.rectilinear_map.specs.Map.{RectilinearMap}
-use Rattle.rectilinear_map.specs.Eval.{mapAnswer, rectilinear}
-
--- a record and a joined grid that are accepted: the shape, the grid's length, knots that rise on every axis
-pub record Gridded (count : ℕ) (lens : List ℕ) (grid : List Float) : Type 0 where
-  pub shape : Usable count lens
-  pub joined : length grid ≡ total (take count lens)
-  pub rising : allRise grid (take count lens) count ≡ true
-
--- and as many coefficients as there are points
-pub record Sound (count : ℕ) (lens : List ℕ) (grid : List Float) (coefs : ℕ) : Type 0 where
-  pub gridded : Gridded count lens grid
-  pub sized : coefs ≡ size (take count lens)
-
--- what the functions that evaluate a query are handed: strides and offsets worked out
-pub record Laid (count : ℕ) (lens : List ℕ) (grid : List Float) (ss from : List ℕ) : Type 0 where
-  pub gridded : Gridded count lens grid
-  pub four : length lens ≡ 4
-  pub strides-are : ss ≡ strides count lens
-  pub offsets-are : from ≡ offsets count lens
+use Rattle.rectilinear_blocks.specs.Map.{RectilinearMap}
+use Rattle.rectilinear_blocks.specs.Eval.{mapAnswer, rectilinear}
+use Rattle.rectilinear_blocks.specs.Sound.{Sound}
 
 -- building, and the checks of every call
 abbrev pub MapTotal : Type 0

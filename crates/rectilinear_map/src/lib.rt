@@ -1,6 +1,5 @@
 // Cubic B-spline maps on a rectilinear grid, double precision: the record, building, values, gradients and batches. After
 // interpn's multibspline::rectilinear.
-mod axis;
 mod batch;
 mod build;
 mod eval;

@@ -9,7 +9,7 @@ ghost use Rattle.rectilinear.specs.Fit.{rectilinearFitChecks, RectilinearFitted
 ghost use Rattle.evaluation.specs.Spline.{OneValue, OneGradient};
 ghost use Rattle.evaluation.specs.Batch.{ValueBatch, GradientBatch};
 ghost use Rattle.rectilinear_map.specs.Map.{mapOf, RectilinearBuilt};
-ghost use Rattle.rectilinear_map.specs.Eval.{gridAnswer, mapAnswer, rectilinear};
+ghost use Rattle.rectilinear_blocks.specs.Eval.{gridAnswer, mapAnswer, rectilinear};
 use crate::batch;
 use crate::build;
 use crate::eval;

@@ -5,7 +5,7 @@ use lib.Ieee.{binary64}
 use Rattle.capi_parts.specs.Inputs.{isOn}
 use Rattle.capi_parts.specs.Rectilinear.{rectilinearSpline}
 use native.Mathlib.Omega.{arith}
-use Rattle.rectilinear_map.specs.Eval.{mapAnswer}
+use Rattle.rectilinear_blocks.specs.Eval.{mapAnswer}
 use Rattle.capi_parts.proofs.Guards.{wrote-nothing, slopes-not, slopes-wrote}
 use Rattle.capi_parts.proofs.Evaluated.{rectilinear-refused, rectilinear-few, rectilinear-gradient}
 use borrow.Author.Needs.{needs}

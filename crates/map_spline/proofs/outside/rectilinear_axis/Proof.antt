@@ -1,6 +1,6 @@
 use Rattle.map_spline.specs.Outside.{rectilinearAxisOutside}
-use Rattle.rectilinear_map.specs.Eval.{locOn}
-use Rattle.rectilinear_map.proofs.Places.{axis-sound}
+use Rattle.rectilinear_blocks.specs.Eval.{locOn}
+use Rattle.rectilinear_blocks.proofs.Places.{axis-sound}
 use native.Mathlib.Omega.{arith}
 use mathlib.Core.Path.{_∙_}
 use borrow.Author.Needs.{needs}

@@ -7,7 +7,7 @@ use borrow.Author.Needs.{needs}
 use Rattle.shape.specs.declared.answers.Refusal.the-variants.{DimensionMismatch}
 use Rattle.evaluation.proofs.Batches.{batch-refused, batch-entries, whole-batch}
 use Rattle.evaluation.proofs.Outcomes.{gradient-checks, gradient-whole, gradient-length, gradient-passed}
-use Rattle.rectilinear_map.specs.Eval.{mapAnswer}
+use Rattle.rectilinear_blocks.specs.Eval.{mapAnswer}
 use Rattle.rectilinear_map.proofs.Checks.{map-numbered, told-sound}
 use Rattle.rectilinear_map.proofs.batch.gradients.Statement.{statement}
 use Rattle.rectilinear_map.proofs.batch.gradients.Tie as tie
@@ -24,7 +24,7 @@ rem-if1 c =
     let w = c .before .before in
     let s = w .before .before .before .before .before in
     let a = s .args in
-    let u = told-sound (a .count) (a .t2) (now (a .grid)) (length (now (a .coeffs))) (omega (arith, s .good)) (c .enum-told .given .1) (w .check-map .ensures) in
+    let u = told-sound (a .count) (a .dims) (now (a .grid)) (length (now (a .coeffs))) (omega (arith, s .good)) (c .enum-told .given .1) (w .check-map .ensures) in
     omega (arith, u .gridded .shape .some-axis)
 
 returns-2 : tie.Need-returns-2
@@ -33,7 +33,7 @@ returns-2 c =
     let t = c .before in
     let w = t .before .before in
     let a = w .before .before .before .before .before .args in
-    batch-refused DimensionMismatch (gradient-whole _ (length (now (a .xs))) (length (now (a .out))) (map-numbered (a .count) (a .t2) (now (a .grid)) (length (now (a .coeffs)))) (t .enum-told .given .1) (w .check-map .ensures) (c .if1 .taken))
+    batch-refused DimensionMismatch (gradient-whole _ (length (now (a .xs))) (length (now (a .out))) (map-numbered (a .count) (a .dims) (now (a .grid)) (length (now (a .coeffs)))) (t .enum-told .given .1) (w .check-map .ensures) (c .if1 .taken))
 
 returns-3 : tie.Need-returns-3
 unfolding mapAnswer
@@ -42,7 +42,7 @@ returns-3 c =
     let t = i .before in
     let w = t .before .before in
     let a = w .before .before .before .before .before .args in
-    batch-refused DimensionMismatch (gradient-length _ (length (now (a .xs))) (length (now (a .out))) (map-numbered (a .count) (a .t2) (now (a .grid)) (length (now (a .coeffs)))) (t .enum-told .given .1) (w .check-map .ensures) (i .if1 .left) (c .if2 .taken))
+    batch-refused DimensionMismatch (gradient-length _ (length (now (a .xs))) (length (now (a .out))) (map-numbered (a .count) (a .dims) (now (a .grid)) (length (now (a .coeffs)))) (t .enum-told .given .1) (w .check-map .ensures) (i .if1 .left) (c .if2 .taken))
 
 div-n : tie.Need-div-n
 div-n c =
@@ -50,45 +50,31 @@ div-n c =
     let w = t .before .before in
     let s = w .before .before .before .before .before in
     let a = s .args in
-    let u = told-sound (a .count) (a .t2) (now (a .grid)) (length (now (a .coeffs))) (omega (arith, s .good)) (t .enum-told .given .1) (w .check-map .ensures) in
+    let u = told-sound (a .count) (a .dims) (now (a .grid)) (length (now (a .coeffs))) (omega (arith, s .good)) (t .enum-told .given .1) (w .check-map .ensures) in
     omega (arith, u .gridded .shape .some-axis)
-
-offsets-requires : tie.Need-offsets-requires
-offsets-requires c κs =
-    let j = c .before in
-    let i = j .before in
-    let t = i .before in
-    let w = t .before .before in
-    let s = w .before .before .before .before .before in
-    let a = s .args in
-    let u = told-sound (a .count) (a .t2) (now (a .grid)) (length (now (a .coeffs))) (omega (arith, s .good)) (t .enum-told .given .1) (w .check-map .ensures) in
-    u .gridded .shape
 
 put-gradients-requires : tie.Need-put-gradients-requires
 put-gradients-requires c κs =
-    let k = c .before .before .before .before in
-    let j = k .before .before in
-    let i = j .before in
-    let t = i .before in
+    let j = c .before in
+    let t = j .before .before in
     let w = t .before .before in
     let s = w .before .before .before .before .before in
     let a = s .args in
-    let u = told-sound (a .count) (a .t2) (now (a .grid)) (length (now (a .coeffs))) (omega (arith, s .good)) (t .enum-told .given .1) (w .check-map .ensures) in
     let n = whole-batch (length (now (a .out))) (a .count) in
-    ((record { gridded = u .gridded; four = omega (arith, s .good); strides-are = k .before .strides-of .ensures; offsets-are = k .offsets .ensures }, u .sized), (omega (arith, n, j .if2 .left), omega (arith, n)))
+    (told-sound (a .count) (a .dims) (now (a .grid)) (length (now (a .coeffs))) (omega (arith, s .good)) (t .enum-told .given .1) (w .check-map .ensures), omega (arith, n, j .if2 .left), omega (arith, n))
 
 returns-4 : tie.Need-returns-4
 unfolding mapAnswer
 returns-4 c =
     let p = c .before .before in
-    let j = p .before .before .before .before .before .before .before in
+    let j = p .before .before in
     let i = j .before in
     let t = i .before in
     let w = t .before .before in
     let a = w .before .before .before .before .before .args in
-    batch-entries (gradient-passed _ (length (now (a .xs))) (length (now (a .out))) (map-numbered (a .count) (a .t2) (now (a .grid)) (length (now (a .coeffs)))) (t .enum-told .given .1) (w .check-map .ensures) (i .if1 .left) (j .if2 .left)) (p .put-gradients .ensures)
+    batch-entries (gradient-passed _ (length (now (a .xs))) (length (now (a .out))) (map-numbered (a .count) (a .dims) (now (a .grid)) (length (now (a .coeffs)))) (t .enum-told .given .1) (w .check-map .ensures) (i .if1 .left) (j .if2 .left)) (p .put-gradients .ensures)
 
 pub gradients-spec : {M : Type 1} → statement M
 gradients-spec =
     tie.close
-    (tie.spec (λ c κs. search needs) (λ c. search needs) returns (λ c. search needs) rem-if1 returns-2 returns-3 div-n (λ c κs. search needs) offsets-requires put-gradients-requires (λ c. search needs) returns-4)
+    (tie.spec (λ c κs. search needs) (λ c. search needs) returns (λ c. search needs) rem-if1 returns-2 returns-3 div-n put-gradients-requires (λ c. search needs) returns-4)

@@ -7,7 +7,7 @@ use borrow.Author.Needs.{needs}
 use Rattle.shape.specs.declared.answers.Refusal.the-variants.{DimensionMismatch}
 use Rattle.evaluation.proofs.Batches.{batch-refused, batch-entries, batch-small}
 use Rattle.evaluation.proofs.Outcomes.{batch-checks, batch-length, batch-passed}
-use Rattle.rectilinear_map.specs.Eval.{mapAnswer}
+use Rattle.rectilinear_blocks.specs.Eval.{mapAnswer}
 use Rattle.rectilinear_map.proofs.Checks.{map-numbered, told-sound}
 use Rattle.rectilinear_map.proofs.batch.values.Statement.{statement}
 use Rattle.rectilinear_map.proofs.batch.values.Tie as tie
@@ -24,7 +24,7 @@ mul-if1 c =
     let w = c .before .before in
     let s = w .before .before .before .before .before in
     let a = s .args in
-    let u = told-sound (a .count) (a .t2) (now (a .grid)) (length (now (a .coeffs))) (omega (arith, s .good)) (c .enum-told .given .1) (w .check-map .ensures) in
+    let u = told-sound (a .count) (a .dims) (now (a .grid)) (length (now (a .coeffs))) (omega (arith, s .good)) (c .enum-told .given .1) (w .check-map .ensures) in
     record { fits = batch-small (a .count) (length (now (a .out))) (u .gridded .shape .at-most-four) (omega (arith, s .good)) }
 
 returns-2 : tie.Need-returns-2
@@ -33,40 +33,28 @@ returns-2 c =
     let t = c .before in
     let w = t .before .before in
     let a = w .before .before .before .before .before .args in
-    batch-refused DimensionMismatch (batch-length _ (length (now (a .xs))) (length (now (a .out))) (map-numbered (a .count) (a .t2) (now (a .grid)) (length (now (a .coeffs)))) (t .enum-told .given .1) (w .check-map .ensures) (c .if1 .taken))
+    batch-refused DimensionMismatch (batch-length _ (length (now (a .xs))) (length (now (a .out))) (map-numbered (a .count) (a .dims) (now (a .grid)) (length (now (a .coeffs)))) (t .enum-told .given .1) (w .check-map .ensures) (c .if1 .taken))
 
-offsets-requires : tie.Need-offsets-requires
-offsets-requires c κs =
+put-values-requires : tie.Need-put-values-requires
+put-values-requires c κs =
     let i = c .before in
     let t = i .before in
     let w = t .before .before in
     let s = w .before .before .before .before .before in
     let a = s .args in
-    let u = told-sound (a .count) (a .t2) (now (a .grid)) (length (now (a .coeffs))) (omega (arith, s .good)) (t .enum-told .given .1) (w .check-map .ensures) in
-    u .gridded .shape
-
-put-values-requires : tie.Need-put-values-requires
-put-values-requires c κs =
-    let k = c .before .before .before .before in
-    let i = k .before .before in
-    let t = i .before in
-    let w = t .before .before in
-    let s = w .before .before .before .before .before in
-    let a = s .args in
-    let u = told-sound (a .count) (a .t2) (now (a .grid)) (length (now (a .coeffs))) (omega (arith, s .good)) (t .enum-told .given .1) (w .check-map .ensures) in
-    ((record { gridded = u .gridded; four = omega (arith, s .good); strides-are = k .before .strides-of .ensures; offsets-are = k .offsets .ensures }, u .sized), (omega (arith, i .if1 .left), omega arith))
+    (told-sound (a .count) (a .dims) (now (a .grid)) (length (now (a .coeffs))) (omega (arith, s .good)) (t .enum-told .given .1) (w .check-map .ensures), omega (arith, i .if1 .left), omega arith)
 
 returns-3 : tie.Need-returns-3
 unfolding mapAnswer
 returns-3 c =
     let p = c .before .before in
-    let i = p .before .before .before .before .before .before .before in
+    let i = p .before .before in
     let t = i .before in
     let w = t .before .before in
     let a = w .before .before .before .before .before .args in
-    batch-entries (batch-passed _ (length (now (a .xs))) (length (now (a .out))) (map-numbered (a .count) (a .t2) (now (a .grid)) (length (now (a .coeffs)))) (t .enum-told .given .1) (w .check-map .ensures) (i .if1 .left)) (p .put-values .ensures)
+    batch-entries (batch-passed _ (length (now (a .xs))) (length (now (a .out))) (map-numbered (a .count) (a .dims) (now (a .grid)) (length (now (a .coeffs)))) (t .enum-told .given .1) (w .check-map .ensures) (i .if1 .left)) (p .put-values .ensures)
 
 pub values-spec : {M : Type 1} → statement M
 values-spec =
     tie.close
-    (tie.spec (λ c κs. search needs) (λ c. search needs) returns (λ c. search needs) mul-if1 returns-2 (λ c κs. search needs) offsets-requires put-values-requires (λ c. search needs) returns-3)
+    (tie.spec (λ c κs. search needs) (λ c. search needs) returns (λ c. search needs) mul-if1 returns-2 put-values-requires (λ c. search needs) returns-3)

@@ -6,7 +6,7 @@ use lib.Ieee.{binary64}
 use borrow.Author.Needs.{needs}
 use Rattle.shape.specs.declared.answers.Refusal.the-variants.{DimensionMismatch}
 use Rattle.evaluation.proofs.Outcomes.{value-found, one-refused, one-checks, one-length, one-answered}
-use Rattle.rectilinear_map.specs.Eval.{mapAnswer}
+use Rattle.rectilinear_blocks.specs.Eval.{mapAnswer}
 use Rattle.rectilinear_map.proofs.Checks.{map-numbered, told-sound}
 use Rattle.rectilinear_map.proofs.eval.one.Statement.{statement}
 use Rattle.rectilinear_map.proofs.eval.one.Tie as tie
@@ -24,38 +24,25 @@ returns-2 c =
     let t = c .before in
     let w = t .before .before in
     let a = w .before .before .before .before .args in
-    one-refused _ (now (a .x)) DimensionMismatch (one-length _ (now (a .x)) (map-numbered (a .count) (a .t2) (now (a .grid)) (length (now (a .coeffs)))) (t .enum-told .given .1) (w .check-map .ensures) (c .if1 .taken))
-
-offsets-requires : tie.Need-offsets-requires
-offsets-requires c κs =
-    let i = c .before in
-    let t = i .before in
-    let w = t .before .before in
-    let s = w .before .before .before .before in
-    let a = s .args in
-    let u = told-sound (a .count) (a .t2) (now (a .grid)) (length (now (a .coeffs))) (omega (arith, s .good)) (t .enum-told .given .1) (w .check-map .ensures) in
-    u .gridded .shape
+    one-refused _ (now (a .x)) DimensionMismatch (one-length _ (now (a .x)) (map-numbered (a .count) (a .dims) (now (a .grid)) (length (now (a .coeffs)))) (t .enum-told .given .1) (w .check-map .ensures) (c .if1 .taken))
 
 value-at-requires : tie.Need-value-at-requires
 value-at-requires c κs =
-    let k = c .before .before .before in
-    let i = k .before .before in
-    let t = i .before in
+    let t = c .before in
     let w = t .before .before in
     let s = w .before .before .before .before in
     let a = s .args in
-    let u = told-sound (a .count) (a .t2) (now (a .grid)) (length (now (a .coeffs))) (omega (arith, s .good)) (t .enum-told .given .1) (w .check-map .ensures) in
-    ((record { gridded = u .gridded; four = omega (arith, s .good); strides-are = k .before .strides-of .ensures; offsets-are = k .offsets .ensures }, omega arith, omega (arith, i .if1 .left)), u .sized)
+    (told-sound (a .count) (a .dims) (now (a .grid)) (length (now (a .coeffs))) (omega (arith, s .good)) (t .enum-told .given .1) (w .check-map .ensures), omega (arith, c .if1 .left))
 
 returns-3 : tie.Need-returns-3
 unfolding mapAnswer
 returns-3 c =
-    let i = c .before .before .before .before .before .before in
+    let i = c .before in
     let t = i .before in
     let w = t .before .before in
     let a = w .before .before .before .before .args in
-    one-answered _ (now (a .x)) (map-numbered (a .count) (a .t2) (now (a .grid)) (length (now (a .coeffs)))) (t .enum-told .given .1) (w .check-map .ensures) (i .if1 .left) (value-found _ _ refl (c .value-at .ensures))
+    one-answered _ (now (a .x)) (map-numbered (a .count) (a .dims) (now (a .grid)) (length (now (a .coeffs)))) (t .enum-told .given .1) (w .check-map .ensures) (i .if1 .left) (value-found _ _ refl (c .value-at .ensures))
 
 pub one-spec : {M : Type 1} → statement M
 one-spec =
-    tie.close (tie.spec (λ c κs. search needs) (λ c. search needs) returns (λ c. search needs) returns-2 (λ c κs. search needs) offsets-requires value-at-requires returns-3)
+    tie.close (tie.spec (λ c κs. search needs) (λ c. search needs) returns (λ c. search needs) returns-2 value-at-requires returns-3)

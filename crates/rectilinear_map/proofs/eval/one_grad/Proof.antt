@@ -6,7 +6,7 @@ use lib.Ieee.{binary64}
 use borrow.Author.Needs.{needs}
 use Rattle.shape.specs.declared.answers.Refusal.the-variants.{DimensionMismatch}
 use Rattle.evaluation.proofs.Outcomes.{gradient-found, one-gradient-refused, one-checks, one-length, one-gradient-answered}
-use Rattle.rectilinear_map.specs.Eval.{mapAnswer}
+use Rattle.rectilinear_blocks.specs.Eval.{mapAnswer}
 use Rattle.rectilinear_map.proofs.Checks.{map-numbered, told-sound}
 use Rattle.rectilinear_map.proofs.eval.one_grad.Statement.{statement}
 use Rattle.rectilinear_map.proofs.eval.one_grad.Tie as tie
@@ -26,39 +26,26 @@ returns-2 c =
     let t = i .before in
     let w = t .before .before in
     let a = w .before .before .before .before .args in
-    one-gradient-refused _ (now (a .x)) DimensionMismatch (one-length _ (now (a .x)) (map-numbered (a .count) (a .t2) (now (a .grid)) (length (now (a .coeffs)))) (t .enum-told .given .1) (w .check-map .ensures) (i .if1 .taken)) (c .refused-gradient2 .ensures .0) (c .refused-gradient2 .ensures .1)
-
-offsets-requires : tie.Need-offsets-requires
-offsets-requires c κs =
-    let i = c .before in
-    let t = i .before in
-    let w = t .before .before in
-    let s = w .before .before .before .before in
-    let a = s .args in
-    let u = told-sound (a .count) (a .t2) (now (a .grid)) (length (now (a .coeffs))) (omega (arith, s .good)) (t .enum-told .given .1) (w .check-map .ensures) in
-    u .gridded .shape
+    one-gradient-refused _ (now (a .x)) DimensionMismatch (one-length _ (now (a .x)) (map-numbered (a .count) (a .dims) (now (a .grid)) (length (now (a .coeffs)))) (t .enum-told .given .1) (w .check-map .ensures) (i .if1 .taken)) (c .refused-gradient2 .ensures .0) (c .refused-gradient2 .ensures .1)
 
 gradient-at-requires : tie.Need-gradient-at-requires
 gradient-at-requires c κs =
-    let k = c .before .before .before in
-    let i = k .before .before in
-    let t = i .before in
+    let t = c .before in
     let w = t .before .before in
     let s = w .before .before .before .before in
     let a = s .args in
-    let u = told-sound (a .count) (a .t2) (now (a .grid)) (length (now (a .coeffs))) (omega (arith, s .good)) (t .enum-told .given .1) (w .check-map .ensures) in
-    ((record { gridded = u .gridded; four = omega (arith, s .good); strides-are = k .before .strides-of .ensures; offsets-are = k .offsets .ensures }, omega arith, omega (arith, i .if1 .left)), u .sized)
+    (told-sound (a .count) (a .dims) (now (a .grid)) (length (now (a .coeffs))) (omega (arith, s .good)) (t .enum-told .given .1) (w .check-map .ensures), omega (arith, c .if1 .left))
 
 returns-3 : tie.Need-returns-3
 unfolding mapAnswer
 returns-3 c =
-    let i = c .before .before .before .before .before .before in
+    let i = c .before in
     let t = i .before in
     let w = t .before .before in
     let a = w .before .before .before .before .args in
-    one-gradient-answered _ (now (a .x)) (map-numbered (a .count) (a .t2) (now (a .grid)) (length (now (a .coeffs)))) (t .enum-told .given .1) (w .check-map .ensures) (i .if1 .left) (gradient-found _ _ refl (c .gradient-at .ensures))
+    one-gradient-answered _ (now (a .x)) (map-numbered (a .count) (a .dims) (now (a .grid)) (length (now (a .coeffs)))) (t .enum-told .given .1) (w .check-map .ensures) (i .if1 .left) (gradient-found _ _ refl (c .gradient-at .ensures))
 
 pub one-grad-spec : {M : Type 1} → statement M
 one-grad-spec =
     tie.close
-    (tie.spec (λ c κs. search needs) (λ c. search needs) (λ c κs. search needs) returns (λ c. search needs) (λ c κs. search needs) returns-2 (λ c κs. search needs) offsets-requires gradient-at-requires returns-3)
+    (tie.spec (λ c κs. search needs) (λ c. search needs) (λ c κs. search needs) returns (λ c. search needs) (λ c κs. search needs) returns-2 gradient-at-requires returns-3)

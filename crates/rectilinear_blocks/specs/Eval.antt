@@ -1,0 +1,77 @@
+-- The value and the gradient of a rectilinear map at a query x, one coordinate an axis, each operation rounded to the format
+-- f. Every query has a place, so that none is refused. Assumes nothing.
+use mathlib.Core.Bool.{false}
+use mathlib.Core.List.{List, [], _++_}
+use Prim.Native.Nat.{ℕ, zero, suc, _+_, _*_}
+use lib.ListN.{length, take, getD}
+use lib.Ieee.{Float, nan, Format}
+use Rattle.shape.specs.Shape.{size}
+use Rattle.shape.specs.Sizes.{strideOf}
+use Rattle.shape.specs.Checks.{Check, firstRefusal, shapeChecks, lengthCheck}
+use Rattle.knots.specs.Joined.{knotsOf}
+use Rattle.knots.specs.Place.{getLoc}
+use Rattle.knots.specs.declared.place.Loc.{Loc}
+use Rattle.rectilinear_weights.specs.Weights.{interpWeights, interpWeightDerivatives}
+use Rattle.knots.specs.Checks.{gridCheck, knotsCheck}
+use Rattle.evaluation.specs.Axes.{rows, valueFrom, gradientFrom}
+use Rattle.evaluation.specs.Spline.{Spline}
+use Rattle.rectilinear_blocks.specs.Map.{RectilinearMap}
+
+-- ---- one axis
+
+-- the knots of axis a, and the place there
+abbrev pub knotsOn : ℕ → List ℕ → List Float → ℕ → List Float
+knotsOn count lens grid a = knotsOf grid (take count lens) a
+
+unfoldable pub locOn : ℕ → List ℕ → List Float → List Float → ℕ → Loc
+locOn count lens grid x a = getLoc (knotsOn count lens grid a) (getD x a nan)
+
+-- the first of the coefficients that count, over the first n axes: the sum of origin times stride
+unfoldable pub firstOn : ℕ → List ℕ → List Float → List Float → ℕ → ℕ
+firstOn count lens grid x zero = 0
+firstOn count lens grid x (suc a) = firstOn count lens grid x a + locOn count lens grid x a .origin * strideOf count lens a
+
+-- the weights of axis a, and its slopes
+module _ (f : Format) (m : RectilinearMap) (grid x : List Float) (a : ℕ) where
+  unfoldable pub weightsOn : List Float
+  weightsOn =
+      let loc = locOn (m .count) (m .lens) grid x a in
+      interpWeights f (knotsOn (m .count) (m .lens) grid a) (getD (m .low) a []) (getD (m .high) a []) (m .linear) (loc .span) (getD x a nan) (loc .sat)
+
+  unfoldable pub slopesOn : List Float
+  slopesOn =
+      let loc = locOn (m .count) (m .lens) grid x a in
+      interpWeightDerivatives f (knotsOn (m .count) (m .lens) grid a) (getD (m .low) a []) (getD (m .high) a []) (m .linear) (loc .span) (getD x a nan) (loc .sat)
+
+-- ---- a map
+
+-- the value at the query, and part k of the gradient
+unfoldable pub valueAt : Format → RectilinearMap → List Float → List Float → List Float → Float
+valueAt f m grid coefs x = valueFrom f (m .count) (m .lens) coefs (rows (m .count) (weightsOn f m grid x)) (firstOn (m .count) (m .lens) grid x (m .count))
+
+unfoldable pub partAt : Format → RectilinearMap → List Float → List Float → List Float → ℕ → Float
+partAt f m grid coefs x k =
+    gradientFrom f (m .count) (m .lens) coefs (rows (m .count) (weightsOn f m grid x)) (rows (m .count) (slopesOn f m grid x)) (firstOn (m .count) (m .lens) grid x (m .count)) k
+
+-- building from a grid alone: the record, the joined grid's length
+unfoldable pub gridAnswer : ℕ → List ℕ → List Float → ℕ
+gridAnswer count lens grid = firstRefusal (shapeChecks count lens ++ gridCheck (take count lens) grid)
+
+-- building, and every evaluation: the record, the joined grid's length, that of the coefficients, the knots
+abbrev pub mapChecks : ℕ → List ℕ → List Float → ℕ → List Check
+mapChecks count lens grid coefs =
+    let dims = take count lens in
+    shapeChecks count lens ++ (gridCheck dims grid ++ (lengthCheck (size dims) coefs ++ knotsCheck dims grid))
+
+unfoldable pub mapAnswer : ℕ → List ℕ → List Float → ℕ → ℕ
+mapAnswer count lens grid coefs = firstRefusal (mapChecks count lens grid coefs)
+
+-- the map as the calls that evaluate it see it
+abbrev pub rectilinear : Format → RectilinearMap → List Float → List Float → Spline
+rectilinear f m grid coefs = record {
+  axes = m .count;
+  checks = mapChecks (m .count) (m .lens) grid (length coefs);
+  refuses = λ x. false;
+  value = valueAt f m grid coefs;
+  part = partAt f m grid coefs;
+}

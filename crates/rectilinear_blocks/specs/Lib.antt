@@ -1,0 +1,5 @@
+pub mod Map
+pub mod Eval
+pub mod Sound
+pub mod Axis
+pub mod Block
