@@ -21,7 +21,7 @@ use Rattle.book.specs.Due.{DueBytes, DueBytesMeans}
 use Rattle.book.specs.Order.{sum}
 use Rattle.shape.proofs.Below.{and-both, any-none, none-at, NoneYet, none-step, one-found}
 
--- ---- a search along a line for a byte above a, and for one below: none among the first i yet
+-- ---- a search along a line for a byte above a: none among the first i yet
 
 module _ (a base stride n : ℕ) (ledger : List ℕ) (i : ℕ) where
   pub above-step : NoneYet (byteAbove a base stride ledger) n i → i < n → getD ledger (base + i * stride) 0 ≤ a → NoneYet (byteAbove a base stride ledger) n (i + 1)
@@ -29,12 +29,6 @@ module _ (a base stride n : ℕ) (ledger : List ℕ) (i : ℕ) where
 
   pub above-found : i < n → a < getD ledger (base + i * stride) 0 → true ≡ anyBelow (byteAbove a base stride ledger) n
   above-found h k = one-found (byteAbove a base stride ledger) n i h (lt-ltb a _ k)
-
-  pub below-step : NoneYet (byteBelow a base stride ledger) n i → i < n → a ≤ getD ledger (base + i * stride) 0 → NoneYet (byteBelow a base stride ledger) n (i + 1)
-  below-step w h k = none-step (byteBelow a base stride ledger) n i w h (le-ltb _ a k)
-
-  pub below-found : i < n → getD ledger (base + i * stride) 0 < a → true ≡ anyBelow (byteBelow a base stride ledger) n
-  below-found h k = one-found (byteBelow a base stride ledger) n i h (lt-ltb _ a k)
 
 -- neither is found: each byte is a
 pub bytes-are : (a base stride n : ℕ) (ledger : List ℕ) → anyBelow (byteAbove a base stride ledger) n ≡ false → anyBelow (byteBelow a base stride ledger) n ≡ false

@@ -1,3 +1,4 @@
 pub mod Stages
 pub mod Due
 pub mod Cleared
+pub mod Others

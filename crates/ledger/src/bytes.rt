@@ -12,6 +12,7 @@ ghost use Rattle.shape.specs.Refusal.{answerNumber};
 ghost use Rattle.shape.specs.Below.{anyBelow};
 ghost use Rattle.book.specs.LineCall.{byteAbove, byteBelow, dueChecks, oneMore, bumped};
 ghost use Rattle.book.specs.Due.{DueBytes};
+ghost use Rattle.ledger.specs.Bytes.{byteOther};
 use multibspline::place;
 use shape::Answer;
 use shape::FirstCell;
@@ -42,14 +43,14 @@ fn any_above(a: usize, base: usize, stride: usize, n: usize, ledger: &[u8]) -> b
     false
 }
 
-// Whether some byte of a line is below a.
-fn any_below(a: usize, base: usize, stride: usize, n: usize, ledger: &[u8]) -> bool
+// Whether some byte of a line is not a.
+fn any_other(a: usize, base: usize, stride: usize, n: usize, ledger: &[u8]) -> bool
     requires { ⌜ onLine base stride (n - 1) < length (now ledger) ⌝ }
-    ensures { λ r. ⌜ r ≡ anyBelow (byteBelow a base stride (now (ledger .entry))) n ⌝ }
+    ensures { λ r. ⌜ r ≡ anyBelow (byteOther a base stride (now (ledger .entry))) n ⌝ }
 {
     let mut i: usize = 0;
     while i < n {
-        if byte(base, stride, n, i, ledger) < a {
+        if byte(base, stride, n, i, ledger) != a {
             return true;
         }
         i += 1;
@@ -58,17 +59,18 @@ fn any_below(a: usize, base: usize, stride: usize, n: usize, ledger: &[u8]) -> b
 }
 
 // Refuses with 8 a line of axis a that is solved already, some byte on it above a, and with 9 one that is not due, some below.
+// A line that is due is gone over once.
 fn check_bytes(a: usize, base: usize, stride: usize, n: usize, ledger: &[u8]) -> Answer
     requires { ⌜ onLine base stride (n - 1) < length (now ledger) ⌝ }
     ensures { λ r. ⌜ answerNumber r ≡ firstRefusal (refuse 8 (anyBelow (byteAbove a base stride (now (ledger .entry))) n) ∷ refuse 9 (anyBelow (byteBelow a base stride (now (ledger .entry))) n) ∷ []) ⌝ }
 {
+    if !any_other(a, base, stride, n, ledger) {
+        return Answer::Accepted;
+    }
     if any_above(a, base, stride, n, ledger) {
         return Answer::Refused(Refusal::AlreadySolved);
     }
-    if any_below(a, base, stride, n, ledger) {
-        return Answer::Refused(Refusal::NotDue);
-    }
-    Answer::Accepted
+    Answer::Refused(Refusal::NotDue)
 }
 
 // Whether a line is due. Refuses with 7 where there is no such axis or line, then with 8 and 9.
