@@ -1,5 +1,5 @@
 -- Entries of a batch, up to the first that is refused. Assumes nothing.
-use mathlib.Core.Path.{_≡_, refl, sym, ap, _∙_}
+use mathlib.Core.Path.{_≡_, refl, ap, _∙_}
 use mathlib.Core.Bool.{Bool, true, false, cond}
 use mathlib.Core.List.{List}
 use Prim.Native.Nat.{ℕ, zero, suc, _+_, _*_, _/_, _^_, _≤_, _<_}
@@ -11,12 +11,10 @@ use lib.Dec.{eqb}
 use lib.ListN.{length}
 use lib.Ieee.{Float}
 use borrow.Author.Tests.{eq-eqb, ne-eqb, lt-ltb, le-ltb}
-use Rattle.shape.specs.Refusal.{refusalNumber, answerNumber}
+use Rattle.shape.specs.Refusal.{refusalNumber}
 use Rattle.shape.specs.declared.answers.Refusal.{Refusal}
-use Rattle.shape.specs.declared.answers.Answer.{Answer}
-use Rattle.shape.specs.declared.answers.Answer.the-variants.{Accepted, Refused}
 use Rattle.shape.proofs.Accepted.{refusal-suc}
-use Rattle.evaluation.specs.Batch.{before, written, Entry, Entries, Batch}
+use Rattle.evaluation.specs.Batch.{before, written, Entries, Batch}
 use Rattle.evaluation.specs.Block.{Block}
 
 -- ---- before the first bad one
@@ -35,22 +33,10 @@ module _ (bad : ℕ → Bool) where
       go (inl same) ih = rw (← same) (rw (eq-eqb (before bad i) i e, h))
       go (inr less) ih = let b = ih less in rw (b, ne-eqb i n (λ q. omega arith))
 
--- ---- one entry
-
-six : (b : Bool) (r : Refusal) → refusalNumber r ≡ cond b 6 0 → b ≡ true
-six true r e = refl
-six false r e = absurd (omega (arith, refusal-suc r, e))
-
+-- an answer of 0
 pub none : (b : Bool) → _≡_ {A = ℕ} 0 (cond b 6 0) → b ≡ false
 none true e = absurd (omega (arith, e))
 none false e = refl
-
-module _ {bad : Bool} {step : List Float → List Float} {out : List Float} where
-  pub entry-done : {out′ : List Float} → _≡_ {A = ℕ} 0 (cond bad 6 0) → out′ ≡ step out → Entry bad step out 0 out′
-  entry-done e w = let ok = none bad e in record { answers = e; leaves = rw ok w }
-
-  pub entry-refused : (r : Refusal) → refusalNumber r ≡ cond bad 6 0 → Entry bad step out (refusalNumber r) out
-  entry-refused r e = let no = six bad r e in record { answers = e; leaves = rw no }
 
 -- ---- the loop over the entries
 
@@ -64,26 +50,6 @@ module _ (bad : ℕ → Bool) (step : ℕ → List Float → List Float) (n : �
   pub running-start : Running bad step n out₀ out₀ 0
   unfolding before written
   running-start = record { most = omega arith; length-out = refl; going = refl; values = refl }
-
-  pub running-next : {out out′ : List Float} {i : ℕ} {y : Answer} → Running bad step n out₀ out i → i < n → length out′ ≡ length out → y ≡ Accepted → Entry (bad i) (step i) out (answerNumber y) out′ → Running bad step n out₀ out′ (i + 1)
-  unfolding written
-  running-next {out} {out′} {i} w h len told e =
-      let ok = none (bad i) (sym (ap answerNumber told) ∙ e .answers) in
-      let here : out′ ≡ step i out = rw ok at (e .leaves) in
-      record {
-        most = omega arith;
-        length-out = len ∙ w .length-out;
-        going = before-next bad i (w .going) ok;
-        values = rw (add-one i) (here ∙ ap (step i) (w .values));
-      }
-
-  pub running-stop : {out out′ : List Float} {i : ℕ} {y : Answer} {r : Refusal} → Running bad step n out₀ out i → i < n → y ≡ Refused r → Entry (bad i) (step i) out (answerNumber y) out′ → Entries bad step n out₀ (refusalNumber r) out′
-  running-stop {out} {out′} {i} {y} {r} w h told e =
-      let num : refusalNumber r ≡ cond (bad i) 6 0 = sym (ap answerNumber told) ∙ e .answers in
-      let no = six (bad i) r num in
-      let stop = before-stop bad i (w .going) no n h in
-      let here : out′ ≡ out = rw no at (e .leaves) in
-      record { answers = rw (stop, lt-ltb i n h) (num ∙ rw no); leaves = rw stop (here ∙ w .values) }
 
   pub running-done : {out : List Float} {i : ℕ} → Running bad step n out₀ out i → n ≤ i → Entries bad step n out₀ 0 out
   running-done {out} {i} w h =

@@ -1,22 +1,20 @@
 -- One entry an axis: reading it, and what is worked out from the rows of the axes in use alone. Assumes nothing.
-use mathlib.Core.Path.{_≡_, refl, sym, ap, _∙_}
-use mathlib.Core.Logic.{inl, inr}
-use mathlib.Core.Bool.{Bool, true, false, cond}
-use mathlib.Core.List.{List, [], _∷_}
+use mathlib.Core.Path.{_≡_, refl, sym, _∙_}
+use mathlib.Core.Bool.{Bool, true, false}
+use mathlib.Core.List.{List, []}
 use Prim.Native.Nat.{ℕ, zero, suc, _+_, _-_, _*_, _≤_, _<_}
-use native.Mathlib.Nat.{eq-or-lt-of-le}
 use native.Mathlib.Omega.{arith}
-use lib.Dec.{ltb, eqb}
-use lib.ListN.{length, getD, set, length-set}
+use lib.Dec.{eqb}
+use lib.ListN.{getD, set}
 use lib.Seq.{getD-set-same, getD-set-other}
 use lib.Ieee.{Float, nan, Format}
-use borrow.Author.Tests.{lt-ltb, ltb-true, eqb-true, eqb-false}
+use borrow.Author.Tests.{lt-ltb, eqb-true, eqb-false}
 use Rattle.shape.specs.Sizes.{strideOf}
 use Rattle.shape.proofs.Accepted.{usable-accepted, stride-is}
 use Rattle.shape.proofs.Lengths.{product-end}
 use Rattle.interp_math.specs.Sum.{summed, gradientPart}
 use Rattle.interp_math.proofs.Sums.{summed-ext}
-use Rattle.evaluation.specs.Axes.{perAxis, query, rows, zeros, parts, strides, Ready, Reaches, RowsOn}
+use Rattle.evaluation.specs.Axes.{perAxis, query, rows, zeros, strides, Ready, Reaches, RowsOn}
 
 -- entry k, where axis k is in use
 pub axis-at : {A : Type 0} (none d : A) (count : ℕ) (entry : ℕ → A) (k : ℕ) → k < count → count ≤ 4 → getD (perAxis none count entry) k d ≡ entry k
@@ -30,14 +28,6 @@ axis-at none d count entry (suc (suc (suc (suc k)))) h few = absurd (omega (arit
 pub query-at : (count : ℕ) (xs : List Float) (n i k : ℕ) → k < count → count ≤ 4 → getD (query count xs n i) k nan ≡ getD xs (k * n + i) nan
 unfolding query
 query-at count xs n i k h few = axis-at _ nan count (λ a. getD xs (a * n + i) nan) k h few
-
--- entries that are the same for the axes in use
-pub axes-same : {A : Type 0} (none : A) (count : ℕ) (p q : ℕ → A) → ((k : ℕ) → k < count → p k ≡ q k) → perAxis none count p ≡ perAxis none count q
-axes-same none count p q same = rw (one 0 (ltb 0 count) refl, one 1 (ltb 1 count) refl, one 2 (ltb 2 count) refl, one 3 (ltb 3 count) refl)
-  where
-    one : (k : ℕ) (b : Bool) → ltb k count ≡ b → cond b (p k) none ≡ cond b (q k) none
-    one k true e = same k (ltb-true k count e)
-    one k false e = refl
 
 -- ---- strides
 
@@ -64,20 +54,6 @@ last-stride {count} {lens} {ss} r =
 
 -- ---- rows
 
-pub rows-none : {row : ℕ → List Float} {table : List (List Float)} → length table ≡ 4 → RowsOn 0 row table
-rows-none e = record { four = e; at = λ a h. absurd (let q : ⊥ = omega arith in q) }
-
--- one axis more
-pub rows-next : {row : ℕ → List Float} {table : List (List Float)} {a : ℕ} (r : List Float) → RowsOn a row table → a < 4 → r ≡ row a → RowsOn (a + 1) row (set table a r)
-rows-next {row} {table} {a} r w h e =
-    record {
-      four = length-set table a r ∙ w .four;
-      at = λ k l. elim (eq-or-lt-of-le (let q : k ≤ a = omega arith in q)) [
-        | inl q ↦ rw q (getD-set-same table a r [] (omega (arith, w .four)) ∙ e)
-        | inr q ↦ getD-set-other table a k r [] (λ z. let y : ⊥ = omega arith in y) ∙ w .at k q
-      ];
-    }
-
 module _ (f : Format) (coefs : List Float) (strides : List ℕ) (count first : ℕ) (few : count ≤ 4) (weight : ℕ → List Float) {ws : List (List Float)} (w : RowsOn count weight ws) where
   row-at : (l : ℕ) → l < count → getD ws l [] ≡ getD (rows count weight) l []
   row-at l h = w .at l h ∙ sym (axis-at zeros [] count weight l h few)
@@ -102,6 +78,3 @@ module _ (f : Format) (coefs : List Float) (strides : List ℕ) (count first : �
         go l h false e =
             let other = eqb-false l k e in
             getD-set-other ws k l _ [] other ∙ row-at l h ∙ sym (getD-set-other (rows count weight) k l _ [] other)
-
-    pub gradient-rows : parts count (gradientPart f coefs strides ws ss count first) ≡ parts count (gradientPart f coefs strides (rows count weight) (rows count slope) count first)
-    gradient-rows = axes-same _ count _ _ part-rows

@@ -3,12 +3,12 @@
 use mathlib.Core.Path.{_≡_, refl, sym, ap, _∙_}
 use mathlib.Core.Bool.{Bool, true, false, cond, not}
 use mathlib.Core.List.{List, [], _∷_, _++_}
-use Prim.Native.Nat.{ℕ, zero, suc, _+_, _*_, _%_, _≤_, _<_}
+use Prim.Native.Nat.{ℕ, _+_, _*_, _%_, _≤_, _<_}
 use native.Mathlib.Omega.{arith}
 use lib.Dec.{eqb}
 use lib.ListN.{length, getD, set}
 use lib.Ieee.{Float, nan}
-use borrow.Author.Tests.{eq-eqb, ne-eqb, lt-ltb}
+use borrow.Author.Tests.{eq-eqb, ne-eqb}
 use Rattle.shape.specs.Cells.{put}
 use Rattle.shape.proofs.Cells.{put-ext}
 use Rattle.shape.specs.Checks.{Check, refuse, firstRefusal, lengthCheck, Positive}
@@ -21,12 +21,12 @@ use Rattle.shape.proofs.Accepted.{refusal-suc, refusal-append, passed-append}
 use Rattle.multibspline.specs.Numbers.{f0}
 use Rattle.evaluation.specs.declared.answers.Valued.{Valued}
 use Rattle.evaluation.specs.declared.answers.Valued.the-variants as Valued
-use Rattle.evaluation.specs.Axes.{zeros, parts, query}
-use Rattle.evaluation.specs.Spline.{Spline, gradient, valuedNumber, valuedValue, Answered, GradientAnswered, oneAnswer, OneValue, OneGradient, batchAnswer, gradientBatchAnswer}
-use Rattle.evaluation.specs.Batch.{written, badAt, valueStep, gradientStep, Entry}
+use Rattle.evaluation.specs.Axes.{zeros, query}
+use Rattle.evaluation.specs.Spline.{Spline, gradient, Answered, GradientAnswered, oneAnswer, OneValue, OneGradient, batchAnswer, gradientBatchAnswer}
+use Rattle.evaluation.specs.Batch.{written, badAt, valueStep, gradientStep}
 use Rattle.evaluation.specs.Block.{Block}
 use Rattle.evaluation.proofs.Entries.{axis-at}
-use Rattle.evaluation.proofs.Batches.{written-same, entry-done, entry-refused, none}
+use Rattle.evaluation.proofs.Batches.{written-same}
 
 -- ---- a query whose lengths are right
 
@@ -43,39 +43,12 @@ module _ (s : Spline) (x : List Float) where
   pub gradient-refused : {answer : ℕ} {ps : List Float} → s .refuses x ≡ true → answer ≡ 6 → ps ≡ zeros → GradientAnswered s x answer ps
   gradient-refused bad ea ep = record { answers = rw bad ea; gradient = rw bad ep }
 
--- ---- an entry of a batch
+-- ---- the parts of a gradient, written one by one
 
 module _ (s : Spline) (xs : List Float) (n i : ℕ) (out : List Float) where
-  pub value-entry : {r : Valued} {v : Float} → r ≡ Valued.Value v → Answered s (query (s .axes) xs n i) r → Entry (badAt s xs n i) (valueStep s xs n i) out 0 (set out i v)
-  unfolding badAt valueStep
-  value-entry {r} {v} told w =
-      let z = sym (ap valuedNumber told) ∙ w .answers in
-      let ok = none (s .refuses (query (s .axes) xs n i)) z in
-      let e : v ≡ s .value (query (s .axes) xs n i) = rw ok at (sym (ap valuedValue told) ∙ w .value) in
-      entry-done z (ap (set out i) e)
-
-  pub value-entry-refused : {r : Valued} {refusal : Refusal} → r ≡ Valued.Refused refusal → Answered s (query (s .axes) xs n i) r → Entry (badAt s xs n i) (valueStep s xs n i) out (refusalNumber refusal) out
-  unfolding badAt valueStep
-  value-entry-refused {r} {refusal} told w = entry-refused refusal (sym (ap valuedNumber told) ∙ w .answers)
-
-  -- the parts of a gradient, written one by one
   pub gradient-written : {ps out′ : List Float} → s .axes ≤ 4 → ps ≡ gradient s (query (s .axes) xs n i) → out′ ≡ put (λ k. k * n + i) (λ k. getD ps k nan) (s .axes) out → out′ ≡ gradientStep s xs n i out
   unfolding gradientStep
   gradient-written few g e = e ∙ put-ext (λ k. k * n + i) _ _ (s .axes) out (λ k h. rw g (axis-at f0 nan (s .axes) (s .part (query (s .axes) xs n i)) k h few))
-
-  pub gradient-entry : {y : Answer} {ps out′ : List Float} → s .axes ≤ 4 → y ≡ Accepted → GradientAnswered s (query (s .axes) xs n i) (answerNumber y) ps
-      → out′ ≡ put (λ k. k * n + i) (λ k. getD ps k nan) (s .axes) out → Entry (badAt s xs n i) (gradientStep s xs n i) out 0 out′
-  unfolding badAt
-  gradient-entry {y} {ps} few told w e =
-      let z = sym (ap answerNumber told) ∙ w .answers in
-      let ok = none (s .refuses (query (s .axes) xs n i)) z in
-      let g : ps ≡ gradient s (query (s .axes) xs n i) = rw ok at (w .gradient) in
-      entry-done z (gradient-written few g e)
-
-  pub gradient-entry-refused : {y : Answer} {refusal : Refusal} {ps : List Float} → y ≡ Refused refusal → GradientAnswered s (query (s .axes) xs n i) (answerNumber y) ps
-      → Entry (badAt s xs n i) (gradientStep s xs n i) out (refusalNumber refusal) out
-  unfolding badAt gradientStep
-  gradient-entry-refused {y} {refusal} told w = entry-refused refusal (sym (ap answerNumber told) ∙ w .answers)
 
 -- ---- a block of a batch, by what was written for each of its entries
 

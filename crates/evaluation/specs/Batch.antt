@@ -36,12 +36,7 @@ module _ (s : Spline) (xs : List Float) (n : ℕ) where
   unfoldable pub gradientStep : ℕ → List Float → List Float
   gradientStep i out = put (λ k. k * n + i) (s .part (query (s .axes) xs n i)) (s .axes) out
 
--- ---- what one entry, the entries and a whole batch answer and leave
-
--- an entry is written unless it is bad
-pub record Entry (bad : Bool) (step : List Float → List Float) (out : List Float) (answer : ℕ) (out′ : List Float) : Type 0 where
-  pub answers : answer ≡ cond bad 6 0
-  pub leaves : out′ ≡ cond bad out (step out)
+-- ---- what the entries and a whole batch answer and leave
 
 pub record Entries (bad : ℕ → Bool) (step : ℕ → List Float → List Float) (n : ℕ) (out : List Float) (answer : ℕ) (out′ : List Float) : Type 0 where
   pub answers : answer ≡ cond (ltb (before bad n) n) 6 0

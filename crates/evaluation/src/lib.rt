@@ -1,10 +1,11 @@
-// What evaluating a map is on either grid: the coordinates of a query, the sums over the coefficients that count, the answers.
+// What evaluating a map is on either grid: the rows of weights of a block of queries, the sums over the coefficients that count,
+// the answers.
 mod answers;
 mod block;
 mod gradients;
 mod in_use;
 mod places;
-mod sums;
+mod strides;
 mod values;
 
 pub use answers::Gradient;
@@ -17,6 +18,5 @@ pub use in_use::used_floats;
 pub use in_use::used_lens;
 pub use places::put_parts;
 pub use places::query;
-pub use sums::gradient_from;
-pub use sums::strides_of;
+pub use strides::strides_of;
 pub use values::put_values;

@@ -1,4 +1,3 @@
 pub mod Four
-pub mod Levels
 pub mod Sums
 pub mod Tables

@@ -2,13 +2,10 @@
 --     coefs     the coefficients
 --     strides   the stride of each axis, axis 0 first
 --     weights   the four weights of each axis, axis 0 first
-use mathlib.Core.Path.{_≡_}
-use mathlib.Core.Bool.{false}
 use mathlib.Core.List.{List, [], _∷_}
-use Prim.Native.Nat.{ℕ, zero, suc, _+_, _*_, _<_}
-use lib.ListN.{length, getD, set}
-use lib.IntN.{pos}
-use lib.Ieee.{Float, nan, fin, Format, add, mul}
+use Prim.Native.Nat.{ℕ, zero, suc, _+_, _*_}
+use lib.ListN.{getD, set}
+use lib.Ieee.{Float, nan, Format, add, mul}
 
 -- a × b, rounded, plus c, rounded
 unfoldable pub mulAdd : Format → Float → Float → Float → Float
@@ -55,37 +52,3 @@ column table q = getD (getD table 0 []) q nan ∷ getD (getD table 1 []) q nan �
 -- the four-term sum of each column
 unfoldable pub across : Format → List Float → List (List Float) → List Float
 across f w table = dot4 f w (column table 0) ∷ dot4 f w (column table 1) ∷ dot4 f w (column table 2) ∷ dot4 f w (column table 3) ∷ []
-
--- ---- inside the table
-
--- the part of an axis not in use: zero
-abbrev pub noPart : Float
-noPart = fin false 0 (pos 0)
-
--- the weights with those of axis k replaced by its slopes
-abbrev pub sloped : List (List Float) → List (List Float) → ℕ → List (List Float)
-sloped weights slopes k = set weights k (getD slopes k [])
-
--- the table with x at place p of row j
-abbrev pub stored : List (List Float) → ℕ → ℕ → Float → List (List Float)
-stored table j p x = set table j (set (getD table j []) p x)
-
--- four rows of four
-pub record Square (table : List (List Float)) : Type 0 where
-  pub four : length table ≡ 4
-  pub fours : (l : ℕ) → l < 4 → length (getD table l []) ≡ 4
-
--- the four sums over j axes along axis j, from `first` on
-unfoldable pub sums : Format → List Float → List ℕ → List (List Float) → ℕ → ℕ → List Float
-sums f coefs strides weights j first =
-    summed f coefs strides weights j first
-    ∷ summed f coefs strides weights j (first + 1 * getD strides j 0)
-    ∷ summed f coefs strides weights j (first + 2 * getD strides j 0)
-    ∷ summed f coefs strides weights j (first + 3 * getD strides j 0)
-    ∷ []
-
--- row j of the table is filled with them, and the rows above it are as they were
-pub record Filled (f : Format) (coefs : List Float) (strides : List ℕ) (weights : List (List Float)) (j first : ℕ) (before after : List (List Float)) : Type 0 where
-  pub square : Square after
-  pub row : getD after j [] ≡ sums f coefs strides weights j first
-  pub above : (l : ℕ) → j < l → getD after l [] ≡ getD before l []
