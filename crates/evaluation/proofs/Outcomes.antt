@@ -6,8 +6,8 @@ use mathlib.Core.List.{List, [], _∷_, _++_}
 use Prim.Native.Nat.{ℕ, _+_, _*_, _%_, _≤_, _<_}
 use native.Mathlib.Omega.{arith}
 use lib.Dec.{eqb}
-use lib.ListN.{length, set}
-use lib.Ieee.{Float}
+use lib.ListN.{length, getD, set}
+use lib.Ieee.{Float, nan}
 use borrow.Author.Tests.{eq-eqb, ne-eqb}
 use Rattle.shape.specs.Cells.{put}
 use Rattle.shape.proofs.Cells.{put-ext}
@@ -25,6 +25,7 @@ use Rattle.evaluation.specs.Axes.{zeros, query}
 use Rattle.evaluation.specs.Spline.{Spline, gradient, Answered, GradientAnswered, oneAnswer, OneValue, OneGradient, batchAnswer, gradientBatchAnswer}
 use Rattle.evaluation.specs.Batch.{written, badAt, valueStep, gradientStep}
 use Rattle.evaluation.specs.Block.{Block}
+use Rattle.evaluation.proofs.Entries.{axis-at}
 use Rattle.evaluation.proofs.Batches.{written-same}
 
 -- ---- a query whose lengths are right
@@ -41,6 +42,13 @@ module _ (s : Spline) (x : List Float) where
 
   pub gradient-refused : {answer : ℕ} {ps : List Float} → s .refuses x ≡ true → answer ≡ 6 → ps ≡ zeros → GradientAnswered s x answer ps
   gradient-refused bad ea ep = record { answers = rw bad ea; gradient = rw bad ep }
+
+-- ---- the parts of a gradient, written one by one
+
+module _ (s : Spline) (xs : List Float) (n i : ℕ) (out : List Float) where
+  pub gradient-written : {ps out′ : List Float} → s .axes ≤ 4 → ps ≡ gradient s (query (s .axes) xs n i) → out′ ≡ put (λ k. k * n + i) (λ k. getD ps k nan) (s .axes) out → out′ ≡ gradientStep s xs n i out
+  unfolding gradientStep
+  gradient-written few g e = e ∙ put-ext (λ k. k * n + i) _ _ (s .axes) out (λ k h. rw g (axis-at f0 nan (s .axes) (s .part (query (s .axes) xs n i)) k h few))
 
 -- ---- a block of a batch, by what was written for each of its entries
 
