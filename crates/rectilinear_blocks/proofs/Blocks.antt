@@ -18,8 +18,8 @@ use Rattle.evaluation.proofs.Reach.{below-small}
 use Rattle.rectilinear_blocks.specs.Map.{RectilinearMap}
 use Rattle.rectilinear_blocks.specs.Eval.{firstOn}
 use Rattle.rectilinear_blocks.specs.Sound.{Gridded}
-use Rattle.rectilinear_blocks.specs.Axis.{Holds, RowsPut, countAt, movedAt, placeWeights, placeSlopes, weightsAt, slopesAt}
-use Rattle.rectilinear_blocks.specs.Block.{InBatch, zeroAt, countOn, firstAt, weightsFor, slopesFor, Weighed}
+use Rattle.rectilinear_blocks.specs.Axis.{Holds, RowsPut, zeroAt, countAt, movedAt, placeWeights, placeSlopes, weightsAt, slopesAt}
+use Rattle.rectilinear_blocks.specs.Block.{InBatch, countOn, firstAt, weightsFor, slopesFor, Weighed}
 use Rattle.rectilinear_blocks.proofs.Places.{place-is, origin-on, first-next, first-below, weights-on, slopes-on}
 
 -- ---- coordinates

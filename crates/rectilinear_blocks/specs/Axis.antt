@@ -19,6 +19,10 @@ pub record RowsPut (row : ℕ → List Float) (base m : ℕ) (old new : List Flo
   pub each : (k : ℕ) → k < m → rowAt new (base + k) ≡ row k
   pub before : (j : ℕ) → j < base → rowAt new j ≡ rowAt old j
 
+-- no axis looked at
+abbrev pub zeroAt : ℕ → ℕ
+zeroAt k = 0
+
 -- the knots below coordinate k
 unfoldable pub countAt : List Float → List Float → ℕ → ℕ → ℕ
 countAt ks xs at k = countBelow ks (getD xs (at + k) nan)

@@ -14,9 +14,6 @@ pub record InBatch (count xs n start m : ℕ) : Type 0 where
   pub whole : count * n ≤ xs
   pub inside : start + m ≤ n
 
-abbrev pub zeroAt : ℕ → ℕ
-zeroAt k = 0
-
 -- of query k of the block: the knots of axis a below its coordinate, and the first of the coefficients that count over the first
 -- a axes
 module _ (count : ℕ) (lens : List ℕ) (grid xs : List Float) (n start a k : ℕ) where

@@ -1,8 +1,11 @@
 // Values and gradients of a rectilinear map at a block of queries, and at blocks after each other: for each axis the places of
 // all the queries, then their weights; then the sums. After interpn's multibspline::rectilinear.
-mod axis;
+mod axes;
 mod batch;
 mod block;
+mod counts;
+mod slopes;
+mod weights;
 
 pub use batch::gradient_at;
 pub use batch::put_gradients;

@@ -2,8 +2,8 @@ use native.Mathlib.Omega.{arith}
 use denote.Ref.{now}
 use borrow.Author.Needs.{needs}
 use Rattle.rectilinear_blocks.proofs.Blocks.{firsts-none, weighed-none, weighed-next}
-use Rattle.rectilinear_blocks.proofs.block.slope_first.Statement.{statement}
-use Rattle.rectilinear_blocks.proofs.block.slope_first.Tie as tie
+use Rattle.rectilinear_blocks.proofs.axes.slope_first.Statement.{statement}
+use Rattle.rectilinear_blocks.proofs.axes.slope_first.Tie as tie
 
 place-axis-requires : tie.Need-place-axis-requires
 place-axis-requires c κs =

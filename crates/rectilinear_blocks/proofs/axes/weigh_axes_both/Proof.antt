@@ -8,8 +8,8 @@ use Rattle.rectilinear_blocks.specs.Map.{ghosts}
 use Rattle.rectilinear_blocks.specs.Axis.{Holds}
 use Rattle.rectilinear_blocks.specs.Block.{firstAt, weightsFor, slopesFor, Weighed}
 use Rattle.rectilinear_blocks.proofs.Blocks.{firsts-none, weighed-none, weighed-next}
-use Rattle.rectilinear_blocks.proofs.block.weigh_axes_both.Statement.{statement}
-use Rattle.rectilinear_blocks.proofs.block.weigh_axes_both.Tie as tie
+use Rattle.rectilinear_blocks.proofs.axes.weigh_axes_both.Statement.{statement}
+use Rattle.rectilinear_blocks.proofs.axes.weigh_axes_both.Tie as tie
 
 abbrev Inv : tie.InvT-loop
 Inv count dims low high linear strides grid xs n from cap m counts₀ firsts₀ rows₀ slopes₀ a₀ counts firsts rows slopes a =

@@ -7,8 +7,8 @@ use Rattle.evaluation.proofs.Blocks.{row-length}
 use Rattle.rectilinear_weights.specs.Ghosts.{ghostNumbers}
 use Rattle.rectilinear_blocks.specs.Axis.{RowsPut, countAt, weightsAt}
 use Rattle.rectilinear_blocks.proofs.Cells.{rows-start, rows-more}
-use Rattle.rectilinear_blocks.proofs.axis.put_weights.Statement.{statement}
-use Rattle.rectilinear_blocks.proofs.axis.put_weights.Tie as tie
+use Rattle.rectilinear_blocks.proofs.weights.put_weights.Statement.{statement}
+use Rattle.rectilinear_blocks.proofs.weights.put_weights.Tie as tie
 
 abbrev Inv : tie.InvT-loop
 Inv knots low high linear xs at m counts base rows₀ k₀ rows k =

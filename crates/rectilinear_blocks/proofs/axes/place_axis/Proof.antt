@@ -6,8 +6,8 @@ use borrow.Author.Needs.{needs}
 use Rattle.evaluation.proofs.Entries.{stride-at}
 use Rattle.rectilinear_blocks.proofs.Places.{axis-sound}
 use Rattle.rectilinear_blocks.proofs.Blocks.{axis-inside, counts-on, moved-small, firsts-next}
-use Rattle.rectilinear_blocks.proofs.block.place_axis.Statement.{statement}
-use Rattle.rectilinear_blocks.proofs.block.place_axis.Tie as tie
+use Rattle.rectilinear_blocks.proofs.axes.place_axis.Statement.{statement}
+use Rattle.rectilinear_blocks.proofs.axes.place_axis.Tie as tie
 
 -- the coordinates of the axis are in the batch
 inside : (c : tie.After-axis-knots) → let a = c .before .before .before .before .before .args in a .a * a .n + a .from + a .m ≤ length (now (a .xs))

@@ -1,0 +1,47 @@
+// The slopes of a block on one axis, by the knots below each coordinate.
+ghost use mathlib.Core.Path.{_≡_};
+ghost use Prim.Native.Nat.{_+_, _*_, _≤_};
+ghost use lib.ListN.{length};
+ghost use lib.Ieee.{binary64};
+ghost use Rattle.knots.specs.Knots.{countBelow};
+ghost use Rattle.rectilinear_weights.specs.Ghosts.{ghostNumbers};
+ghost use Rattle.rectilinear_blocks.specs.Axis.{Holds, RowsPut, countAt, placeSlopes, slopesAt};
+use evaluation::put_row;
+use knots::loc_of;
+use rectilinear_weights::Ghost;
+use rectilinear_weights::interp_weight_derivatives;
+
+// The slopes at x, with c knots below it.
+fn slopes_at(knots: &[f64], low: Ghost, high: Ghost, linear: bool, c: usize, x: f64) -> [f64; 4]
+    requires { ⌜ (4 ≤ length (now knots)) × (c ≡ countBelow (now knots) x) ⌝ }
+    ensures { λ r. ⌜ r ≡ placeSlopes binary64 (now (knots .entry)) (ghostNumbers low) (ghostNumbers high) linear x ⌝ }
+{
+    let loc = loc_of(knots.len(), c);
+    let sat = loc.sat;
+    interp_weight_derivatives(knots, loc.span, x, sat, linear, low, high)
+}
+
+// The slopes of each query, into the rows from number `base` on.
+pub fn put_slopes(
+    knots: &[f64],
+    low: Ghost,
+    high: Ghost,
+    linear: bool,
+    xs: &[f64],
+    at: usize,
+    m: usize,
+    counts: &[usize],
+    base: usize,
+    rows: &mut [f64],
+)
+    requires { ⌜ (4 ≤ length (now knots)) × (at + m ≤ length (now xs)) × (m ≤ length (now counts)) × (4 * (base + m) ≤ length (now rows)) ⌝ }
+    requires { ⌜ Holds (countAt (now knots) (now xs) at) m (now counts) ⌝ }
+    ensures { λ _. ⌜ RowsPut (slopesAt binary64 (now (knots .entry)) (ghostNumbers low) (ghostNumbers high) linear (now (xs .entry)) at) base m (now (rows .entry)) (now (rows .exit)) ⌝ }
+{
+    let mut k: usize = 0;
+    while k < m {
+        let row = slopes_at(knots, low, high, linear, counts[k], xs[at + k]);
+        put_row(row, base + k, rows);
+        k += 1;
+    }
+}
