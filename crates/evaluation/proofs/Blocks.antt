@@ -6,14 +6,16 @@ use Prim.Native.Nat.{ℕ, zero, suc, _+_, _*_, _≤_, _<_}
 use native.Mathlib.Numerals.{add-one}
 use native.Mathlib.Omega.{arith}
 use lib.ListN.{length, getD, set, length-set, List·getD-append}
+use lib.Seq.{getD-set-same}
 use lib.Ieee.{Float, nan, Format}
 use Rattle.shape.specs.Cells.{put, from}
 use Rattle.shape.proofs.Cells.{length-put, from-in, put-other, put-ext}
 use Rattle.interp_math.specs.Sum.{summed, gradientPart}
 use Rattle.interp_math.proofs.Four.{four}
 use Rattle.interp_math.proofs.Sums.{summed-ext}
+use Rattle.evaluation.specs.Axes.{RowsOn}
 use Rattle.evaluation.specs.Batch.{written}
-use Rattle.evaluation.specs.Block.{rowAt, withRow, Firsts}
+use Rattle.evaluation.specs.Block.{rowAt, withRow, weightsOf, Firsts}
 use Rattle.evaluation.proofs.Batches.{written-same}
 
 -- ---- one row replaced
@@ -36,6 +38,30 @@ module _ (rows : List Float) (j : ℕ) (row : List Float) where
   row-other k other =
       let cell : (q : ℕ) → ((p : ℕ) → p < 4 → q ≢ 4 * j + p) → getD (put (from (4 * j)) (λ p. getD row p nan) 4 rows) q nan ≡ getD rows q nan = λ q away. put-other (from (4 * j)) (λ p. getD row p nan) 4 rows q nan away in
       rw (cell (4 * k) (λ p h z. omega arith), cell (4 * k + 1) (λ p h z. omega arith), cell (4 * k + 2) (λ p h z. omega arith), cell (4 * k + 3) (λ p h z. omega arith))
+
+-- ---- the rows of one query, one an axis
+
+pub weights-on : {count : ℕ} {row : ℕ → List Float} (rows : List Float) (cap k : ℕ) → count ≤ 4 → ((a : ℕ) → a < count → rowAt rows (cap * a + k) ≡ row a) → RowsOn count row (weightsOf rows cap k)
+unfolding weightsOf
+weights-on {count} {row} rows cap k few each = record { four = refl; at = at }
+  where
+    here : (a j : ℕ) → a < count → j ≡ cap * a + k → rowAt rows j ≡ row a
+    here a j h e = rw e (each a h)
+
+    at : (a : ℕ) → a < count → getD (weightsOf rows cap k) a [] ≡ row a
+    at zero h = here 0 k h (omega arith)
+    at (suc zero) h = here 1 (cap + k) h (omega arith)
+    at (suc (suc zero)) h = here 2 (2 * cap + k) h (omega arith)
+    at (suc (suc (suc zero))) h = here 3 (3 * cap + k) h (omega arith)
+    at (suc (suc (suc (suc a)))) h = absurd (let q : ⊥ = omega arith in q)
+
+-- over one axis, the part of the gradient is the sum by the slopes
+pub slope-alone : (f : Format) (coefs : List Float) (strides : List ℕ) (weights slopes sums : List (List Float)) (first : ℕ) → 0 < length weights → getD sums 0 [] ≡ getD slopes 0 []
+    → summed f coefs strides sums 1 first ≡ gradientPart f coefs strides weights slopes 1 first 0
+unfolding gradientPart
+slope-alone f coefs strides weights slopes sums first some e =
+    summed-ext f coefs strides strides sums _ 1 first (λ l h. refl)
+    (λ l h. let z : l ≡ 0 = omega arith in rw z (e ∙ sym (getD-set-same weights 0 (getD slopes 0 []) [] some)))
 
 -- ---- the first coefficients
 

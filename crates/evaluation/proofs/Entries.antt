@@ -3,7 +3,7 @@ use mathlib.Core.Path.{_≡_, refl, sym, ap, _∙_}
 use mathlib.Core.Logic.{inl, inr}
 use mathlib.Core.Bool.{Bool, true, false, cond}
 use mathlib.Core.List.{List, [], _∷_}
-use Prim.Native.Nat.{ℕ, zero, suc, _+_, _*_, _≤_, _<_}
+use Prim.Native.Nat.{ℕ, zero, suc, _+_, _-_, _*_, _≤_, _<_}
 use native.Mathlib.Nat.{eq-or-lt-of-le}
 use native.Mathlib.Omega.{arith}
 use lib.Dec.{ltb, eqb}
@@ -12,9 +12,11 @@ use lib.Seq.{getD-set-same, getD-set-other}
 use lib.Ieee.{Float, nan, Format}
 use borrow.Author.Tests.{lt-ltb, ltb-true, eqb-true, eqb-false}
 use Rattle.shape.specs.Sizes.{strideOf}
+use Rattle.shape.proofs.Accepted.{usable-accepted, stride-is}
+use Rattle.shape.proofs.Lengths.{product-end}
 use Rattle.interp_math.specs.Sum.{summed, gradientPart}
 use Rattle.interp_math.proofs.Sums.{summed-ext}
-use Rattle.evaluation.specs.Axes.{perAxis, query, rows, zeros, parts, strides, Reaches, RowsOn}
+use Rattle.evaluation.specs.Axes.{perAxis, query, rows, zeros, parts, strides, Ready, Reaches, RowsOn}
 
 -- entry k, where axis k is in use
 pub axis-at : {A : Type 0} (none d : A) (count : ℕ) (entry : ℕ → A) (k : ℕ) → k < count → count ≤ 4 → getD (perAxis none count entry) k d ≡ entry k
@@ -50,6 +52,15 @@ stride-at count lens (suc (suc (suc (suc a)))) e h = absurd (omega (arith, h))
 pub within-by : {count : ℕ} {lens ss : List ℕ} {first coefs : ℕ} → ss ≡ strides count lens → Reaches count lens first coefs
     → first + 3 * (getD ss 0 0 + getD ss 1 0 + getD ss 2 0 + getD ss 3 0) < coefs
 within-by e w = rw e (w .within)
+
+-- two neighbours along the last axis stand side by side
+pub last-stride : {count : ℕ} {lens ss : List ℕ} → Ready count lens ss → getD ss (count - 1) 0 ≡ 1
+last-stride {count} {lens} {ss} r =
+    let u = r .shape in
+    let a : count - 1 < count = omega (arith, u .some-axis) in
+    stride-at count lens (count - 1) (r .strides-are) (omega (arith, u .at-most-four))
+    ∙ stride-is count lens (usable-accepted count lens (r .four) u) (count - 1) a
+    ∙ product-end lens count (suc (count - 1)) (omega (arith, r .four, u .at-most-four)) (omega arith)
 
 -- ---- rows
 

@@ -4,7 +4,6 @@ use native.Mathlib.Omega.{arith}
 use denote.Ref.{now}
 use lib.ListN.{getD}
 use lib.Ieee.{Float, binary64}
-use borrow.Author.Needs.{needs}
 use Rattle.shape.specs.Cells.{put}
 use Rattle.interp_math.specs.Sum.{gradientPart}
 use Rattle.evaluation.specs.Block.{weightsOf}
