@@ -13,8 +13,8 @@ ghost use Rattle.rectilinear_blocks.specs.Block.{InBatch};
 use crate::axes::slope_first;
 use crate::axes::weigh_axes;
 use crate::axes::weigh_axes_both;
-use evaluation::put_gradients;
-use evaluation::put_values;
+use block_sums::put_gradients;
+use block_sums::put_values;
 use rectilinear_weights::Ghost;
 
 // The values of the block, entries `from` to `from + m` of `out`.

@@ -13,8 +13,8 @@ ghost use Rattle.regular_blocks.specs.Block.{Room, FirstsTo, RowsTo};
 use crate::axis::slope_axis;
 use crate::axis::weigh_axis;
 use crate::axis::weigh_axis_both;
-use evaluation::put_gradients;
-use evaluation::put_values;
+use block_sums::put_gradients;
+use block_sums::put_values;
 
 // Before any axis is looked at.
 fn zero_firsts(m: usize, firsts: &mut [usize])
