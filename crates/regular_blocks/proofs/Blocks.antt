@@ -1,18 +1,16 @@
 -- A block of queries on a regular map, once all axes are done: what its entries answer. For every format. Assumes nothing.
-use mathlib.Core.Path.{_≡_, refl, sym, _∙_}
+use mathlib.Core.Path.{_≡_}
 use mathlib.Core.Bool.{true, false}
-use mathlib.Core.List.{List, []}
-use Prim.Native.Nat.{ℕ, zero, suc, _+_, _*_, _-_, _≤_, _<_}
-use native.Mathlib.Omega.{arith}
+use mathlib.Core.List.{List}
+use Prim.Native.Nat.{ℕ, _+_, _≤_, _<_}
 use lib.ListN.{length, getD, take}
 use lib.Ieee.{Float, Format}
 use Rattle.shape.specs.Shape.{size}
 use Rattle.interp_math.specs.Sum.{summed, gradientPart}
 use Rattle.evaluation.specs.Axes.{query, Ready, RowsOn}
-use Rattle.evaluation.specs.Block.{rowAt, weightsOf, Firsts, reach}
-use Rattle.shape.proofs.Accepted.{usable-accepted, stride-is}
-use Rattle.shape.proofs.Lengths.{product-end}
-use Rattle.evaluation.proofs.Entries.{stride-at, within-by}
+use Rattle.evaluation.specs.Block.{weightsOf, Firsts, reach}
+use Rattle.evaluation.proofs.Blocks.{weights-on}
+use Rattle.evaluation.proofs.Entries.{within-by}
 use Rattle.regular_blocks.specs.Map.{RegularMap}
 use Rattle.regular_blocks.specs.Eval.{weightsOn, slopesOn, valueAt, partAt, refuses}
 use Rattle.regular_blocks.specs.Block.{FirstsTo, RowsTo}
@@ -21,27 +19,7 @@ use Rattle.regular_blocks.proofs.Firsts.{no-cell, has-cell, reaches, va
 -- the rows of entry k, as a table
 rows-of : {row : List Float → ℕ → List Float} {count : ℕ} {xs : List Float} {n start cap good : ℕ} (rows : List Float) → RowsTo row count xs n start cap count good rows → count ≤ 4 → (k : ℕ) → k < good
     → RowsOn count (row (query count xs n (start + k))) (weightsOf rows cap k)
-unfolding weightsOf
-rows-of {row} {count} {xs} {n} {start} {cap} rows w few k g = record { four = refl; at = at }
-  where
-    here : (b j : ℕ) → b < count → j ≡ cap * b + k → rowAt rows j ≡ row (query count xs n (start + k)) b
-    here b j h e = rw e (w .at b k h g)
-
-    at : (b : ℕ) → b < count → getD (weightsOf rows cap k) b [] ≡ row (query count xs n (start + k)) b
-    at zero h = here 0 k h (omega arith)
-    at (suc zero) h = here 1 (cap + k) h (omega arith)
-    at (suc (suc zero)) h = here 2 (2 * cap + k) h (omega arith)
-    at (suc (suc (suc zero))) h = here 3 (3 * cap + k) h (omega arith)
-    at (suc (suc (suc (suc b)))) h = absurd (let q : ⊥ = omega arith in q)
-
--- two neighbours along the last axis stand side by side
-pub last-one : {count : ℕ} {lens ss : List ℕ} → Ready count lens ss → getD ss (count - 1) 0 ≡ 1
-last-one {count} {lens} {ss} r =
-    let u = r .shape in
-    let a : count - 1 < count = omega (arith, u .some-axis) in
-    stride-at count lens (count - 1) (r .strides-are) (omega (arith, u .at-most-four))
-    ∙ stride-is count lens (usable-accepted count lens (r .four) u) (count - 1) a
-    ∙ product-end lens count (suc (count - 1)) (omega (arith, r .four, u .at-most-four)) (omega arith)
+rows-of {cap = cap} rows w few k g = weights-on rows cap k few (λ a h. w .at a k h g)
 
 module _ (f : Format) (map : RegularMap) (xs : List Float) (n start m : ℕ) {good : ℕ} {firsts : List ℕ} (w : FirstsTo f map xs n start m (map .count) good firsts) where
   pub entry-good : (k : ℕ) → k < good → refuses f map (query (map .count) xs n (start + k)) ≡ false

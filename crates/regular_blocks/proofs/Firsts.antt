@@ -1,7 +1,7 @@
 -- The first of the coefficients that count for a query, and what the query answers by it. For every format. Assumes nothing.
-use mathlib.Core.Path.{_≡_, refl, sym, subst}
+use mathlib.Core.Path.{_≡_, refl}
 use mathlib.Core.Bool.{true, false}
-use mathlib.Core.List.{List}
+use mathlib.Core.List.{List, []}
 use Prim.Native.Nat.{ℕ, zero, suc, _+_, _*_, _-_, _≤_, _<_}
 use native.Mathlib.Omega.{arith}
 use native.Mathlib.Numerals.{add-one}
@@ -16,9 +16,9 @@ use Rattle.regular_weights.specs.Place.{getLoc}
 use Rattle.regular_weights.specs.declared.place.Loc.{Loc}
 use Rattle.regular_weights.specs.declared.place.Loc.the-variants.{At, Unrepresentable}
 use Rattle.interp_math.specs.Sum.{summed, gradientPart}
-use Rattle.interp_math.proofs.Sums.{summed-ext}
 use Rattle.evaluation.specs.Axes.{strides, rows, Reaches, RowsOn}
 use Rattle.evaluation.proofs.Entries.{value-rows, part-rows}
+use Rattle.evaluation.proofs.Blocks.{slope-alone}
 use Rattle.evaluation.proofs.Reach.{Below, below-start, below-next, below-reaches}
 use Rattle.regular_blocks.specs.First.{First}
 use Rattle.regular_blocks.specs.First as First
@@ -53,12 +53,6 @@ module _ (f : Format) (m : RegularMap) (x : List Float) (four : length (m .lens)
 
 -- ---- what the query answers
 
--- over one axis the slopes stand in the place of the weights
-slope-rows : (f : Format) (coefs : List Float) (ss : List ℕ) (first : ℕ) (weight slope : ℕ → List Float) {ds : List (List Float)} → RowsOn 1 slope ds
-    → summed f coefs ss ds 1 first ≡ gradientPart f coefs ss (rows 1 weight) (rows 1 slope) 1 first 0
-unfolding gradientPart
-slope-rows f coefs ss first weight slope {ds} d = summed-ext f coefs ss ss ds _ 1 first (λ l h. refl) (λ l h. let z : l ≡ 0 = omega arith in rw z (d .at 0 (omega arith)))
-
 module _ (f : Format) (m : RegularMap) (x : List Float) where
   pub no-cell : firstOn f m x (m .count) ≡ First.Unrepresentable → refuses f m x ≡ true
   unfolding refuses
@@ -84,9 +78,9 @@ module _ (f : Format) (m : RegularMap) (x : List Float) where
         unfolding partAt
         part-is w d k h = rw (e, es) (part-rows f coefs (strides (m .count) (m .lens)) (m .count) first few (weightsOn f m x) w (slopesOn f m x) d k h)
 
+        -- over one axis the slopes stand in the place of the weights
         pub slope-is : {ds : List (List Float)} → m .count ≡ 1 → RowsOn (m .count) (slopesOn f m x) ds → summed f coefs ss ds (m .count) first ≡ partAt f m coefs x 0
-        unfolding partAt
+        unfolding partAt weightsOn slopesOn locOn
         slope-is {ds} one d =
-            rw (e, es)
-            (let all : ℕ → Type 0 = λ (c : ℕ). RowsOn c (slopesOn f m x) ds → summed f coefs (strides (m .count) (m .lens)) ds c first ≡ gradientPart f coefs (strides (m .count) (m .lens)) (rows c (weightsOn f m x)) (rows c (slopesOn f m x)) c first 0 in
-            subst all (sym one) (slope-rows f coefs (strides (m .count) (m .lens)) first (weightsOn f m x) (slopesOn f m x)) d)
+            let own : getD ds 0 [] ≡ slopesOn f m x 0 = d .at 0 (omega arith) in
+            rw (e, es, one) (slope-alone f coefs (strides 1 (m .lens)) (rows 1 (weightsOn f m x)) (rows 1 (slopesOn f m x)) ds first (omega arith) own)

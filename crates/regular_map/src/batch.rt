@@ -52,7 +52,7 @@ fn put_values(
     let mut from: usize = 0;
     while from < n {
         let m = block_size(from, n);
-        let good = values_block(
+        let valued = values_block(
             count,
             dims,
             starts,
@@ -71,7 +71,7 @@ fn put_values(
             rows,
             out,
         );
-        if good < m {
+        if valued < m {
             return Answer::Refused(Refusal::Unrepresentable);
         }
         from += m;

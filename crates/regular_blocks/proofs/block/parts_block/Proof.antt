@@ -2,9 +2,10 @@ use native.Mathlib.Omega.{arith}
 use denote.Ref.{now}
 use lib.Ieee.{binary64}
 use borrow.Author.Needs.{needs}
+use Rattle.evaluation.proofs.Entries.{last-stride}
 use Rattle.evaluation.proofs.Outcomes.{gradient-block}
 use Rattle.regular_blocks.proofs.Axes.{room-firsts}
-use Rattle.regular_blocks.proofs.Blocks.{last-one, entry-good, entry-stops, entries-reach, entry-part}
+use Rattle.regular_blocks.proofs.Blocks.{entry-good, entry-stops, entries-reach, entry-part}
 use Rattle.regular_blocks.proofs.block.parts_block.Statement.{statement}
 use Rattle.regular_blocks.proofs.block.parts_block.Tie as tie
 
@@ -25,7 +26,7 @@ put-gradients-requires c κs =
     let w = g .ensures .0 in (
       s .pre .0 .2,
       r .shape .at-most-four,
-      last-one r,
+      last-stride r,
       omega (arith, w .most, l .block),
       omega (arith, w .most, l .in-firsts, k .0, z .kept .1 .0),
       omega (arith, l .in-rows, k .1 .1 .1 .0),

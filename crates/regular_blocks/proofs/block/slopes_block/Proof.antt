@@ -3,9 +3,10 @@ use native.Mathlib.Omega.{arith}
 use denote.Ref.{now}
 use lib.Ieee.{binary64}
 use borrow.Author.Needs.{needs}
+use Rattle.evaluation.proofs.Entries.{last-stride}
 use Rattle.evaluation.proofs.Outcomes.{slope-block}
 use Rattle.regular_blocks.proofs.Axes.{room-firsts}
-use Rattle.regular_blocks.proofs.Blocks.{last-one, entry-good, entry-stops, entries-reach, entry-slope}
+use Rattle.regular_blocks.proofs.Blocks.{entry-good, entry-stops, entries-reach, entry-slope}
 use Rattle.regular_blocks.proofs.block.slopes_block.Statement.{statement}
 use Rattle.regular_blocks.proofs.block.slopes_block.Tie as tie
 
@@ -24,7 +25,7 @@ put-values-requires c κs =
     let l = s .pre .1 in
     let k = g .kept .1 .1 .1 .1 .1 .1 .1 .1 .1 .1 in
     let w = g .ensures .0 in
-    (omega arith, omega arith, last-one r, omega (arith, w .most, l .block), omega (arith, w .most, l .in-firsts, k .0, z .kept .1 .0), omega (arith, l .in-rows, k .1 .1 .1 .0), omega (arith, w .most, l .batch, s .pre .0 .2), entries-reach binary64 _ _ _ _ _ w (now (s .args .coeffs)) r (s .pre .0 .1))
+    (omega arith, omega arith, last-stride r, omega (arith, w .most, l .block), omega (arith, w .most, l .in-firsts, k .0, z .kept .1 .0), omega (arith, l .in-rows, k .1 .1 .1 .0), omega (arith, w .most, l .batch, s .pre .0 .2), entries-reach binary64 _ _ _ _ _ w (now (s .args .coeffs)) r (s .pre .0 .1))
 
 returns : tie.Need-returns
 returns c =

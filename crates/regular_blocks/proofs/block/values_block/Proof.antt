@@ -2,9 +2,10 @@ use native.Mathlib.Omega.{arith}
 use denote.Ref.{now}
 use lib.Ieee.{binary64}
 use borrow.Author.Needs.{needs}
+use Rattle.evaluation.proofs.Entries.{last-stride}
 use Rattle.evaluation.proofs.Outcomes.{value-block}
 use Rattle.regular_blocks.proofs.Axes.{room-firsts}
-use Rattle.regular_blocks.proofs.Blocks.{last-one, entry-good, entry-stops, entries-reach, entry-value}
+use Rattle.regular_blocks.proofs.Blocks.{entry-good, entry-stops, entries-reach, entry-value}
 use Rattle.regular_blocks.proofs.block.values_block.Statement.{statement}
 use Rattle.regular_blocks.proofs.block.values_block.Tie as tie
 
@@ -26,7 +27,7 @@ put-values-requires c κs =
     let l = s .pre .1 in
     let k = g .kept .1 .1 .1 .1 .1 .1 .1 .1 .1 .1 .1 in
     let w = g .ensures .0 in
-    (r .shape .some-axis, r .shape .at-most-four, last-one r, omega (arith, w .most, l .block), omega (arith, w .most, l .in-firsts, k .0, z .kept .1 .0), omega (arith, l .in-rows, k .1 .1 .1 .0), omega (arith, w .most, l .batch, s .pre .0 .2), entries-reach binary64 _ _ _ _ _ w (now (s .args .coeffs)) r (s .pre .0 .1))
+    (r .shape .some-axis, r .shape .at-most-four, last-stride r, omega (arith, w .most, l .block), omega (arith, w .most, l .in-firsts, k .0, z .kept .1 .0), omega (arith, l .in-rows, k .1 .1 .1 .0), omega (arith, w .most, l .batch, s .pre .0 .2), entries-reach binary64 _ _ _ _ _ w (now (s .args .coeffs)) r (s .pre .0 .1))
 
 returns : tie.Need-returns
 returns c =
