@@ -1,13 +1,13 @@
 -- Rows written one after the other, from a row number on. Assumes nothing.
-use mathlib.Core.Path.{_≡_, refl, sym, ap, _∙_}
-use mathlib.Core.Logic.{_≢_, inl, inr}
+use mathlib.Core.Path.{_≡_, refl, _∙_}
+use mathlib.Core.Logic.{inl, inr}
 use mathlib.Core.List.{List}
 use Prim.Native.Nat.{ℕ, _+_, _*_, _≤_, _<_}
 use native.Mathlib.Nat.{eq-or-lt-of-le}
 use native.Mathlib.Omega.{arith}
 use lib.ListN.{length}
 use lib.Ieee.{Float}
-use Rattle.evaluation.specs.Block.{rowAt, withRow}
+use Rattle.evaluation.specs.Block.{withRow}
 use Rattle.evaluation.proofs.Blocks.{row-length, row-same, row-other}
 use Rattle.regular_blocks.specs.Axis.{RowsFrom}
 

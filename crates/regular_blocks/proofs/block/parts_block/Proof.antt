@@ -4,7 +4,7 @@ use lib.Ieee.{binary64}
 use borrow.Author.Needs.{needs}
 use Rattle.evaluation.proofs.Entries.{last-stride}
 use Rattle.evaluation.proofs.Outcomes.{gradient-block}
-use Rattle.regular_blocks.proofs.Axes.{room-firsts}
+use Rattle.regular_blocks.proofs.Weighing.{room-firsts}
 use Rattle.regular_blocks.proofs.Blocks.{entry-good, entry-stops, entries-reach, entry-part}
 use Rattle.regular_blocks.proofs.block.parts_block.Statement.{statement}
 use Rattle.regular_blocks.proofs.block.parts_block.Tie as tie

@@ -5,7 +5,7 @@ use lib.Ieee.{binary64}
 use borrow.Author.Needs.{needs}
 use Rattle.evaluation.proofs.Entries.{last-stride}
 use Rattle.evaluation.proofs.Outcomes.{slope-block}
-use Rattle.regular_blocks.proofs.Axes.{room-firsts}
+use Rattle.regular_blocks.proofs.Weighing.{room-firsts}
 use Rattle.regular_blocks.proofs.Blocks.{entry-good, entry-stops, entries-reach, entry-slope}
 use Rattle.regular_blocks.proofs.block.slopes_block.Statement.{statement}
 use Rattle.regular_blocks.proofs.block.slopes_block.Tie as tie

@@ -2,7 +2,6 @@ use mathlib.Core.Path.{_∙_}
 use Prim.Native.Nat.{_-_}
 use native.Mathlib.Omega.{arith}
 use lib.Ieee.{binary64}
-use borrow.Author.Needs.{needs}
 use Rattle.regular_blocks.proofs.Placing.{Placing, placing-start, placing-next, placing-stop, placing-done}
 use Rattle.regular_blocks.proofs.places.places.Statement.{statement}
 use Rattle.regular_blocks.proofs.places.places.Tie as tie

@@ -3,7 +3,6 @@ use Prim.Native.Nat.{_-_}
 use native.Mathlib.Omega.{arith}
 use lib.ListN.{length}
 use lib.Ieee.{binary64}
-use borrow.Author.Needs.{needs}
 use Rattle.evaluation.specs.Batch.{badAt, gradientStep}
 use Rattle.evaluation.specs.Spline.{Spline}
 use Rattle.evaluation.proofs.Batches.{Running, running-start, block-next, block-stop, running-done}

@@ -1,9 +1,8 @@
-use mathlib.Core.Path.{_≡_, refl, sym, _∙_}
+use mathlib.Core.Path.{_≡_, refl, _∙_}
 use Prim.Native.Nat.{_-_}
 use native.Mathlib.Omega.{arith}
 use lib.ListN.{length}
 use lib.Ieee.{binary64}
-use borrow.Author.Needs.{needs}
 use Rattle.evaluation.specs.Batch.{badAt, valueStep}
 use Rattle.evaluation.specs.Spline.{Spline}
 use Rattle.evaluation.proofs.Batches.{Running, running-start, block-next, block-stop, running-done}

@@ -1,6 +1,5 @@
 use mathlib.Core.Path.{refl}
 use native.Mathlib.Omega.{arith}
-use denote.Ref.{now}
 use lib.Ieee.{ofBits}
 use borrow.Author.Needs.{needs}
 use Rattle.evaluation.proofs.Singles.{single-gradient, single-gradient-refused}

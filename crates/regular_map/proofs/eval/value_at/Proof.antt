@@ -1,5 +1,4 @@
 use native.Mathlib.Omega.{arith}
-use denote.Ref.{now}
 use borrow.Author.Needs.{needs}
 use Rattle.evaluation.proofs.Singles.{single-value, single-refused}
 use Rattle.regular_map.proofs.eval.value_at.Statement.{statement}

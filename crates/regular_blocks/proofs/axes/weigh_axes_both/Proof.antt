@@ -2,15 +2,14 @@ use mathlib.Core.Path.{_≡_, refl, _∙_}
 use Prim.Native.Nat.{_+_, _*_, _-_, _≤_, _<_}
 use native.Mathlib.Omega.{arith}
 use denote.Ref.{now}
-use lib.ListN.{length, getD}
+use lib.ListN.{length}
 use lib.Ieee.{binary64}
-use borrow.Author.Needs.{needs}
 use Rattle.regular_blocks.specs.Map.{RegularMap}
 use Rattle.regular_blocks.specs.Eval.{weightsOn, slopesOn}
 use Rattle.regular_blocks.specs.Block.{RowsTo}
-use Rattle.regular_blocks.proofs.Axes.{no-rows, all-rows, axis-coordinates, axis-rows, weights-next, slopes-next, Weighing, weighing-start, weighing-asks, weighing-room, weighing-next, weighing-done}
-use Rattle.regular_blocks.proofs.block.weigh_axes_both.Statement.{statement}
-use Rattle.regular_blocks.proofs.block.weigh_axes_both.Tie as tie
+use Rattle.regular_blocks.proofs.Weighing.{no-rows, all-rows, axis-coordinates, axis-rows, weights-next, slopes-next, Weighing, weighing-start, weighing-asks, weighing-room, weighing-next, weighing-done}
+use Rattle.regular_blocks.proofs.axes.weigh_axes_both.Statement.{statement}
+use Rattle.regular_blocks.proofs.axes.weigh_axes_both.Tie as tie
 
 abbrev Inv : tie.InvT-loop
 Inv count dims starts steps linear strides xs n from cap m firsts₀ sats₀ ts₀ rows₀ slopes₀ good₀ a₀ firsts sats ts rows slopes good a =

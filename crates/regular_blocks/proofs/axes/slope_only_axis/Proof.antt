@@ -1,9 +1,9 @@
 use native.Mathlib.Omega.{arith}
 use lib.Ieee.{binary64}
 use borrow.Author.Needs.{needs}
-use Rattle.regular_blocks.proofs.Axes.{axis-ready, only-firsts, only-slopes}
-use Rattle.regular_blocks.proofs.block.slope_only_axis.Statement.{statement}
-use Rattle.regular_blocks.proofs.block.slope_only_axis.Tie as tie
+use Rattle.regular_blocks.proofs.Weighing.{axis-ready, only-firsts, only-slopes}
+use Rattle.regular_blocks.proofs.axes.slope_only_axis.Statement.{statement}
+use Rattle.regular_blocks.proofs.axes.slope_only_axis.Tie as tie
 
 slope-axis-requires : tie.Need-slope-axis-requires
 slope-axis-requires c κs =
