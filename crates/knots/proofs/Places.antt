@@ -1,5 +1,5 @@
--- The four coefficients from the origin on are on the axis, and so are both ends of the span; the place of a NaN. Assumes
--- nothing.
+-- The four coefficients from the origin on are on the axis, and so are both ends of the span; the place of a NaN and that of an
+-- inner span. Assumes nothing.
 use mathlib.Core.Path.{_≡_, refl}
 use mathlib.Core.Bool.{Bool, true, false, cond}
 use mathlib.Core.List.{List}

@@ -1,4 +1,3 @@
-use mathlib.Core.Path.{refl}
 use native.Mathlib.Omega.{arith}
 use Rattle.knots.proofs.order.fall.Statement.{statement}
 use Rattle.knots.proofs.order.fall.Tie as tie
