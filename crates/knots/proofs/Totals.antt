@@ -8,7 +8,7 @@ use Prim.Native.Nat.{ℕ, zero, suc, _+_, _-_, _*_, _≤_, _<_}
 use native.Mathlib.Nat.{eq-or-lt-of-le, mul-le-mul-left, mul-le-mul-right}
 use native.Mathlib.Numerals.{add-one}
 use native.Mathlib.Omega.{arith}
-use borrow.Author.Tests.{not-true, not-false, lt-ltb}
+use borrow.Author.Tests.{not-true, not-false}
 use lib.ListN.{length, getD, take, drop, length-drop, drop-of-length-le}
 use lib.Seq.{slice-cons, length-take-le, take-take}
 use lib.Ieee.{Float}
@@ -18,7 +18,7 @@ use Rattle.shape.specs.Usable.{Usable}
 use Rattle.shape.proofs.Below.{and-both}
 use Rattle.shape.proofs.Accepted.{axes-are, points-are}
 use Rattle.knots.specs.Knots.{rises}
-use Rattle.knots.specs.Joined.{total, offsets, knotsOf, allRise}
+use Rattle.knots.specs.Joined.{total, knotsOf, allRise}
 
 -- ---- the axes from i on, of the first k: one more axis, and none
 
@@ -126,11 +126,3 @@ module _ (grid : List Float) (dims : List ℕ) where
 
     pub one-falls : (k : ℕ) → a < k → not r ≡ true → allRise grid dims k ≡ false
     one-falls k h e = not-all-rise k a h (ap rises (sym part) ∙ sym found ∙ not-true r e)
-
--- where the knots of an axis in use begin, as the code keeps it
-pub offset-at : (count : ℕ) (lens : List ℕ) {from : List ℕ} (a : ℕ) → from ≡ offsets count lens → a < count → count ≤ 4 → getD from a 0 ≡ total (take a lens)
-offset-at count lens zero e h few = rw (e, lt-ltb 0 count h)
-offset-at count lens (suc zero) e h few = rw (e, lt-ltb 1 count h)
-offset-at count lens (suc (suc zero)) e h few = rw (e, lt-ltb 2 count h)
-offset-at count lens (suc (suc (suc zero))) e h few = rw (e, lt-ltb 3 count h)
-offset-at count lens (suc (suc (suc (suc a)))) e h few = absurd (let q : ⊥ = omega (arith, h, few) in q)

@@ -1,9 +1,8 @@
 -- The joined grid of a rectilinear map: the knots of each axis, axis after axis, in one list. Assumes nothing.
 --     dims     the lengths of the axes, axis 0 first
-use mathlib.Core.Bool.{Bool, true, cond, _&&_}
+use mathlib.Core.Bool.{Bool, true, _&&_}
 use mathlib.Core.List.{List, [], _∷_}
 use Prim.Native.Nat.{ℕ, zero, suc, _+_}
-use lib.Dec.{ltb}
 use lib.ListN.{take, drop}
 use lib.Ieee.{Float}
 use Rattle.shape.specs.Shape.{points}
@@ -13,13 +12,6 @@ use Rattle.knots.specs.Knots.{rises}
 unfoldable pub total : List ℕ → ℕ
 total [] = 0
 total (n ∷ ns) = n + total ns
-
--- how many knots come before those of each axis in use
-abbrev pub offsetOn : ℕ → List ℕ → ℕ → ℕ
-offsetOn count lens a = cond (ltb a count) (total (take a lens)) 0
-
-abbrev pub offsets : ℕ → List ℕ → List ℕ
-offsets count lens = offsetOn count lens 0 ∷ offsetOn count lens 1 ∷ offsetOn count lens 2 ∷ offsetOn count lens 3 ∷ []
 
 -- the knots of axis a: as many as it has points, after those of the axes before it
 unfoldable pub knotsOf : List Float → List ℕ → ℕ → List Float

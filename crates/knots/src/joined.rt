@@ -4,7 +4,7 @@ ghost use Prim.Native.Nat.{_≤_, _<_};
 ghost use lib.ListN.{length, take};
 ghost use Rattle.shape.specs.Checks.{mostPoints};
 ghost use Rattle.shape.specs.Usable.{Usable};
-ghost use Rattle.knots.specs.Joined.{total, offsetOn, offsets as offsetsOf, knotsOf};
+ghost use Rattle.knots.specs.Joined.{total, knotsOf};
 
 // How many knots the axes before `axis` have.
 fn offset(dims: [usize; 4], axis: usize) -> usize
@@ -18,31 +18,6 @@ fn offset(dims: [usize; 4], axis: usize) -> usize
         i += 1;
     }
     sum
-}
-
-// The same, or 0 where `axis` is not in use.
-fn offset_on(count: usize, dims: [usize; 4], axis: usize) -> usize
-    requires { ⌜ Usable count dims ⌝ }
-    ensures { λ r. ⌜ r ≡ offsetOn count dims axis ⌝ }
-{
-    if count <= axis {
-        return 0;
-    }
-    offset(dims, axis)
-}
-
-// How many knots come before those of each axis, for a caller that looks at many queries: the knots of an axis in use are
-// dims[axis] from there on.
-pub fn offsets(count: usize, dims: [usize; 4]) -> [usize; 4]
-    requires { ⌜ Usable count dims ⌝ }
-    ensures { λ r. ⌜ r ≡ offsetsOf count dims ⌝ }
-{
-    [
-        offset_on(count, dims, 0),
-        offset_on(count, dims, 1),
-        offset_on(count, dims, 2),
-        offset_on(count, dims, 3),
-    ]
 }
 
 // How many knots all axes have: the length of the joined grid.

@@ -6,7 +6,6 @@ mod place;
 
 pub use joined::axis_knots;
 pub use joined::grid_len;
-pub use joined::offsets;
 pub use order::all_rise;
 pub use order::count_below;
 pub use order::rising;

@@ -2,9 +2,8 @@
 -- every format. Assumes nothing.
 use mathlib.Core.Path.{_≡_, refl, sym, ap, _∙_}
 use mathlib.Core.Logic.{inl, inr}
-use mathlib.Core.Bool.{Bool}
 use mathlib.Core.List.{List, []}
-use Prim.Native.Nat.{ℕ, zero, suc, _+_, _*_, _≤_, _<_}
+use Prim.Native.Nat.{ℕ, _+_, _*_, _≤_, _<_}
 use native.Mathlib.Nat.{eq-or-lt-of-le, mul-le-mul-left, mul-le-mul-right}
 use native.Mathlib.Omega.{arith}
 use lib.ListN.{length, getD, take}
@@ -18,9 +17,10 @@ use Rattle.evaluation.proofs.Reach.{below-small}
 use Rattle.rectilinear_blocks.specs.Map.{RectilinearMap}
 use Rattle.rectilinear_blocks.specs.Eval.{firstOn}
 use Rattle.rectilinear_blocks.specs.Sound.{Gridded}
-use Rattle.rectilinear_blocks.specs.Axis.{Holds, RowsPut, zeroAt, countAt, movedAt, placeWeights, placeSlopes, weightsAt, slopesAt}
+use Rattle.rectilinear_axis.specs.Axis.{Holds, RowsPut, zeroAt, countAt, movedAt, placeWeights, placeSlopes, weightsAt, slopesAt}
 use Rattle.rectilinear_blocks.specs.Block.{InBatch, countOn, firstAt, weightsFor, slopesFor, Weighed}
-use Rattle.rectilinear_blocks.proofs.Places.{place-is, origin-on, first-next, first-below, weights-on, slopes-on}
+use Rattle.rectilinear_axis.proofs.Located.{place-is}
+use Rattle.rectilinear_blocks.proofs.Places.{origin-on, first-next, first-below, weights-on, slopes-on}
 
 -- ---- coordinates
 

@@ -1,7 +1,7 @@
 -- The values and the gradients of a block, by the rows and the first coefficients that were worked out. For every format.
 -- Assumes nothing.
 use mathlib.Core.Path.{_≡_, refl, sym, ap, _∙_}
-use mathlib.Core.List.{List, []}
+use mathlib.Core.List.{List}
 use Prim.Native.Nat.{ℕ, zero, suc, _+_, _*_, _≤_, _<_}
 use native.Mathlib.Omega.{arith}
 use lib.ListN.{length, getD, set}
@@ -17,7 +17,7 @@ use Rattle.evaluation.proofs.Outcomes.{value-block, gradient-block, slope-block
 use Rattle.rectilinear_blocks.specs.Map.{RectilinearMap}
 use Rattle.rectilinear_blocks.specs.Eval.{rectilinear, firstOn}
 use Rattle.rectilinear_blocks.specs.Sound.{Sound, Laid}
-use Rattle.rectilinear_blocks.specs.Axis.{Holds}
+use Rattle.rectilinear_axis.specs.Axis.{Holds}
 use Rattle.rectilinear_blocks.specs.Block.{firstAt, weightsFor, slopesFor, Weighed}
 use Rattle.rectilinear_blocks.proofs.Places.{reaches, value-is, part-is, slope-is}
 

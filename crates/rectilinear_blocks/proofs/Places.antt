@@ -1,25 +1,21 @@
 -- The places of a query on the axes of a map: rows of weights and slopes, and the first of the coefficients that count. For
 -- every format. Assumes nothing.
-use mathlib.Core.Path.{_≡_, refl, sym, ap, _∙_}
-use mathlib.Core.Bool.{Bool, true}
+use mathlib.Core.Path.{_≡_, refl, _∙_}
+use mathlib.Core.Bool.{true}
 use mathlib.Core.List.{List, []}
-use Prim.Native.Nat.{ℕ, zero, suc, _+_, _*_, _-_, _≤_, _<_}
+use Prim.Native.Nat.{ℕ, zero, suc, _+_, _*_, _≤_, _<_}
 use native.Mathlib.Omega.{arith}
 use native.Mathlib.Numerals.{add-one}
 use lib.ListN.{length, getD, take}
 use lib.Ieee.{Float, Format, nan}
-use Rattle.shape.specs.Shape.{points}
 use Rattle.shape.specs.Sizes.{strideOf}
 use Rattle.shape.specs.Usable.{Usable}
-use Rattle.knots.specs.Knots.{rises, countBelow}
+use Rattle.knots.specs.Knots.{rises}
 use Rattle.knots.specs.Joined.{knotsOf, total}
-use Rattle.knots.specs.Place.{locOf, getLoc}
-use Rattle.knots.specs.declared.place.Loc.{Loc}
+use Rattle.knots.specs.Place.{getLoc}
 use Rattle.knots.proofs.Totals.{part-length, part-long, axis-rises}
-use Rattle.knots.proofs.Places.{get-loc-within, inner-place}
-use Rattle.rectilinear_weights.specs.Basis.{basisSpanWeights}
+use Rattle.knots.proofs.Places.{get-loc-within}
 use Rattle.rectilinear_weights.specs.Weights.{interpWeights, interpWeightDerivatives}
-use Rattle.rectilinear_weights.proofs.Inner.{inner-interp}
 use Rattle.interp_math.specs.Sum.{summed, gradientPart}
 use Rattle.evaluation.specs.Axes.{strides, rows, Reaches, RowsOn}
 use Rattle.evaluation.proofs.Blocks.{slope-alone}
@@ -28,18 +24,6 @@ use Rattle.evaluation.proofs.Reach.{Below, below-start, below-next, below-reach
 use Rattle.rectilinear_blocks.specs.Map.{RectilinearMap}
 use Rattle.rectilinear_blocks.specs.Eval.{locOn, firstOn, weightsOn, slopesOn, valueAt, partAt}
 use Rattle.rectilinear_blocks.specs.Sound.{Gridded, Sound}
-use Rattle.rectilinear_blocks.specs.Axis.{placeWeights}
-
--- the place by the count of the knots below
-pub place-is : (ks : List Float) (x : Float) {c : ℕ} {l : Loc} → l ≡ locOf (length ks) c → c ≡ countBelow ks x → l ≡ getLoc ks x
-unfolding getLoc
-place-is ks x e ec = rw (← ec) e
-
--- the weights where the six knots beside the span are knots of the grid
-pub inner-is : (f : Format) (ks low high : List Float) (linear : Bool) (x : Float) {c : ℕ} {l : Loc} {r : List Float} → l ≡ locOf (length ks) c → c ≡ countBelow ks x → 2 ≤ l .span → l .span + 3 < length ks → r ≡ basisSpanWeights f ks (l .span) x
-    → r ≡ placeWeights f ks low high linear x
-unfolding placeWeights
-inner-is f ks low high linear x {c} {l} e ec first last er = rw (← place-is ks x e ec) (er ∙ sym (inner-interp f ks low high linear (l .span) x (inner-place (length ks) c e first last)))
 
 -- ---- an axis of an accepted map
 

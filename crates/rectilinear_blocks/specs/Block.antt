@@ -7,7 +7,7 @@ use Rattle.evaluation.specs.Axes.{query}
 use Rattle.evaluation.specs.Block.{rowAt}
 use Rattle.rectilinear_blocks.specs.Map.{RectilinearMap}
 use Rattle.rectilinear_blocks.specs.Eval.{knotsOn, firstOn, weightsOn, slopesOn}
-use Rattle.rectilinear_blocks.specs.Axis.{countAt}
+use Rattle.rectilinear_axis.specs.Axis.{countAt}
 
 -- m queries from `start` on are among the n, and all coordinates are there
 pub record InBatch (count xs n start m : ℕ) : Type 0 where

@@ -1,19 +1,18 @@
 // The axes of a block of queries, from query `from` of n on: for each axis the places of all of them, then their weights or
 // slopes. The row of axis a and query k is row number cap * a + k, in buffers that hold cap queries.
-ghost use mathlib.Core.Path.{_≡_};
 ghost use Prim.Native.Nat.{_+_, _*_, _≤_, _<_};
 ghost use lib.ListN.{length};
 ghost use lib.Ieee.{binary64};
 ghost use Rattle.rectilinear_blocks.specs.Map.{RectilinearMap, ghosts};
 ghost use Rattle.rectilinear_blocks.specs.Sound.{Gridded, Laid};
-ghost use Rattle.rectilinear_blocks.specs.Axis.{Holds, RowsPut};
+ghost use Rattle.rectilinear_axis.specs.Axis.{Holds, RowsPut};
 ghost use Rattle.rectilinear_blocks.specs.Block.{countOn, firstAt, weightsFor, slopesFor, InBatch, Weighed};
-use crate::counts::clear_firsts;
-use crate::counts::move_firsts;
-use crate::counts::put_counts;
-use crate::slopes::put_slopes;
-use crate::weights::put_weights;
 use knots::axis_knots;
+use rectilinear_axis::clear_firsts;
+use rectilinear_axis::move_firsts;
+use rectilinear_axis::put_counts;
+use rectilinear_axis::put_slopes;
+use rectilinear_axis::put_weights;
 use rectilinear_weights::Ghost;
 
 // The places on axis a: the knots below each coordinate, and the sums of origin times stride with this axis added.

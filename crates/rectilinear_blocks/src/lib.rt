@@ -3,9 +3,6 @@
 mod axes;
 mod batch;
 mod block;
-mod counts;
-mod slopes;
-mod weights;
 
 pub use batch::gradient_at;
 pub use batch::put_gradients;

@@ -1,10 +1,10 @@
 use denote.Ref.{now}
 use borrow.Author.Needs.{needs}
 use Rattle.knots.proofs.Places.{get-loc-within}
-use Rattle.rectilinear_blocks.specs.Axis.{placeSlopes}
-use Rattle.rectilinear_blocks.proofs.Places.{place-is}
-use Rattle.rectilinear_blocks.proofs.slopes.slopes_at.Statement.{statement}
-use Rattle.rectilinear_blocks.proofs.slopes.slopes_at.Tie as tie
+use Rattle.rectilinear_axis.specs.Axis.{placeSlopes}
+use Rattle.rectilinear_axis.proofs.Located.{place-is}
+use Rattle.rectilinear_axis.proofs.slopes.slopes_at.Statement.{statement}
+use Rattle.rectilinear_axis.proofs.slopes.slopes_at.Tie as tie
 
 interp-weight-derivatives-requires : tie.Need-interp-weight-derivatives-requires
 interp-weight-derivatives-requires c κs =

@@ -1,10 +1,10 @@
 use mathlib.Core.Path.{_≡_, refl}
 use Prim.Native.Nat.{_-_, _≤_}
 use native.Mathlib.Omega.{arith}
-use Rattle.rectilinear_blocks.specs.Axis.{zeroAt}
-use Rattle.rectilinear_blocks.proofs.Cells.{Moving, moving-start, moving-next}
-use Rattle.rectilinear_blocks.proofs.counts.clear_firsts.Statement.{statement}
-use Rattle.rectilinear_blocks.proofs.counts.clear_firsts.Tie as tie
+use Rattle.rectilinear_axis.specs.Axis.{zeroAt}
+use Rattle.rectilinear_axis.proofs.Cells.{Moving, moving-start, moving-next}
+use Rattle.rectilinear_axis.proofs.counts.clear_firsts.Statement.{statement}
+use Rattle.rectilinear_axis.proofs.counts.clear_firsts.Tie as tie
 
 abbrev Inv : tie.InvT-loop
 Inv m firsts₀ k₀ firsts k = (k ≤ m) × Moving zeroAt k firsts₀ firsts

@@ -3,10 +3,10 @@ use Prim.Native.Nat.{_+_, _*_, _-_, _≤_}
 use native.Mathlib.Omega.{arith}
 use denote.Ref.{now}
 use lib.ListN.{getD}
-use Rattle.rectilinear_blocks.specs.Axis.{movedAt}
-use Rattle.rectilinear_blocks.proofs.Cells.{Moving, moving-start, moving-next}
-use Rattle.rectilinear_blocks.proofs.counts.move_firsts.Statement.{statement}
-use Rattle.rectilinear_blocks.proofs.counts.move_firsts.Tie as tie
+use Rattle.rectilinear_axis.specs.Axis.{movedAt}
+use Rattle.rectilinear_axis.proofs.Cells.{Moving, moving-start, moving-next}
+use Rattle.rectilinear_axis.proofs.counts.move_firsts.Statement.{statement}
+use Rattle.rectilinear_axis.proofs.counts.move_firsts.Tie as tie
 
 abbrev Inv : tie.InvT-loop
 Inv n stride m counts firsts₀ k₀ firsts k = (k ≤ m) × Moving (movedAt n stride counts firsts₀) k firsts₀ firsts

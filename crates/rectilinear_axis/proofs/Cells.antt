@@ -1,5 +1,5 @@
 -- The entries of a block, put one after the other into flat lists: numbers, and rows of four. Assumes nothing.
-use mathlib.Core.Path.{_≡_, refl, sym, ap, _∙_}
+use mathlib.Core.Path.{_≡_, refl, _∙_}
 use mathlib.Core.Logic.{inl, inr}
 use mathlib.Core.List.{List}
 use Prim.Native.Nat.{ℕ, _+_, _*_, _≤_, _<_}
@@ -8,9 +8,9 @@ use native.Mathlib.Omega.{arith}
 use lib.ListN.{length, getD, set, length-set}
 use lib.Seq.{getD-set-same, getD-set-other}
 use lib.Ieee.{Float}
-use Rattle.evaluation.specs.Block.{rowAt, withRow}
+use Rattle.evaluation.specs.Block.{withRow}
 use Rattle.evaluation.proofs.Blocks.{row-same, row-other}
-use Rattle.rectilinear_blocks.specs.Axis.{Holds, RowsPut}
+use Rattle.rectilinear_axis.specs.Axis.{Holds, RowsPut}
 
 -- ---- numbers
 

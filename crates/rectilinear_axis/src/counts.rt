@@ -7,7 +7,7 @@ ghost use Prim.Native.Nat.{ℕ, _+_, _≤_, _<_};
 ghost use lib.ListN.{length};
 ghost use Rattle.shape.specs.Checks.{mostPoints};
 ghost use Rattle.knots.specs.Knots.{rises};
-ghost use Rattle.rectilinear_blocks.specs.Axis.{Holds, zeroAt, countAt, movedAt};
+ghost use Rattle.rectilinear_axis.specs.Axis.{Holds, zeroAt, countAt, movedAt};
 use knots::count_below;
 use knots::loc_of;
 

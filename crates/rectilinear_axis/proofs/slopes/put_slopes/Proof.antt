@@ -1,25 +1,24 @@
-use mathlib.Core.Path.{_≡_, refl, _∙_}
+use mathlib.Core.Path.{_≡_, refl}
 use Prim.Native.Nat.{_-_, _≤_}
 use native.Mathlib.Omega.{arith}
 use lib.ListN.{length}
 use lib.Ieee.{binary64}
-use Rattle.evaluation.proofs.Blocks.{row-length}
 use Rattle.rectilinear_weights.specs.Ghosts.{ghostNumbers}
-use Rattle.rectilinear_blocks.specs.Axis.{RowsPut, countAt, weightsAt}
-use Rattle.rectilinear_blocks.proofs.Cells.{rows-start, rows-more}
-use Rattle.rectilinear_blocks.proofs.weights.put_weights.Statement.{statement}
-use Rattle.rectilinear_blocks.proofs.weights.put_weights.Tie as tie
+use Rattle.rectilinear_axis.specs.Axis.{RowsPut, countAt, slopesAt}
+use Rattle.rectilinear_axis.proofs.Cells.{rows-start, rows-more}
+use Rattle.rectilinear_axis.proofs.slopes.put_slopes.Statement.{statement}
+use Rattle.rectilinear_axis.proofs.slopes.put_slopes.Tie as tie
 
 abbrev Inv : tie.InvT-loop
 Inv knots low high linear xs at m counts base rows₀ k₀ rows k =
-    (k ≤ m) × (length rows ≡ length rows₀) × RowsPut (weightsAt binary64 knots (ghostNumbers low) (ghostNumbers high) linear xs at) base k rows₀ rows
+    (k ≤ m) × (length rows ≡ length rows₀) × RowsPut (slopesAt binary64 knots (ghostNumbers low) (ghostNumbers high) linear xs at) base k rows₀ rows
 
 abbrev μ : tie.MeasureT-loop
 μ knots low high linear xs at m counts base rows₀ k₀ rows k = m - k
 
-weights-at-requires : tie.Need-weights-at-requires Inv μ
+slopes-at-requires : tie.Need-slopes-at-requires Inv μ
 unfolding countAt
-weights-at-requires c κs =
+slopes-at-requires c κs =
     let t = c .before .before in
     let s = t .before .before .before .before .before .before in
     (s .pre .0 .0, s .pre .1 .each (t .before .loop .k) (t .loop-test .taken))
@@ -35,7 +34,7 @@ loop-again c =
     let t = p .before .before .before .before .before in
     let l = t .before in
     let s = l .before .before .before .before .before in
-    (omega (arith, t .loop-test .taken), omega (arith, l .loop .inv .1), rows-more _ (l .loop .inv .2) (omega (arith, p .before .before .weights-at .ok)) (omega (arith, t .loop-test .taken, l .loop .inv .1, s .pre .0 .3)) (p .before .before .weights-at .ensures) (p .put-row .ensures))
+    (omega (arith, t .loop-test .taken), omega (arith, l .loop .inv .1), rows-more _ (l .loop .inv .2) (omega (arith, p .before .before .slopes-at .ok)) (omega (arith, t .loop-test .taken, l .loop .inv .1, s .pre .0 .3)) (p .before .before .slopes-at .ensures) (p .put-row .ensures))
 
 returns : tie.Need-returns Inv μ
 returns c =
@@ -43,8 +42,8 @@ returns c =
     let e : l .loop .k ≡ l .before .before .before .before .before .args .m = omega (arith, l .loop .inv .0) in
     rw e at (l .loop .inv .2)
 
-pub put-weights-spec : {M : Type 1} → statement M
-put-weights-spec =
+pub put-slopes-spec : {M : Type 1} → statement M
+put-slopes-spec =
     tie.close
-    (tie.spec Inv μ (λ c. (omega arith, refl, rows-start)) (λ c. omega arith) (λ c. omega arith) (λ c. omega arith) (λ c. omega arith) (λ c. omega arith) weights-at-requires (λ c. omega arith) put-row-requires (λ c. omega arith)
+    (tie.spec Inv μ (λ c. (omega arith, refl, rows-start)) (λ c. omega arith) (λ c. omega arith) (λ c. omega arith) (λ c. omega arith) (λ c. omega arith) slopes-at-requires (λ c. omega arith) put-row-requires (λ c. omega arith)
     (λ c. omega arith) loop-again (λ c. c .before .loop .inv .1) returns)

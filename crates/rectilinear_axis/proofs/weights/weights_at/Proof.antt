@@ -6,10 +6,10 @@ use lib.Ieee.{binary64}
 use borrow.Author.Needs.{needs}
 use borrow.Author.Tests.{ltb-true}
 use Rattle.knots.proofs.Places.{get-loc-within}
-use Rattle.rectilinear_blocks.specs.Axis.{placeWeights}
-use Rattle.rectilinear_blocks.proofs.Places.{place-is, inner-is}
-use Rattle.rectilinear_blocks.proofs.weights.weights_at.Statement.{statement}
-use Rattle.rectilinear_blocks.proofs.weights.weights_at.Tie as tie
+use Rattle.rectilinear_axis.specs.Axis.{placeWeights}
+use Rattle.rectilinear_axis.proofs.Located.{place-is, inner-is}
+use Rattle.rectilinear_axis.proofs.weights.weights_at.Statement.{statement}
+use Rattle.rectilinear_axis.proofs.weights.weights_at.Tie as tie
 
 -- both ends of the span are knots
 within : (c : tie.After-loc-of) → c .loc-of .result .span + 1 < length (now (c .before .before .args .knots))

@@ -1,10 +1,10 @@
 use mathlib.Core.Path.{_≡_}
 use Prim.Native.Nat.{_-_, _≤_}
 use native.Mathlib.Omega.{arith}
-use Rattle.rectilinear_blocks.specs.Axis.{countAt}
-use Rattle.rectilinear_blocks.proofs.Cells.{Moving, moving-start, moving-next}
-use Rattle.rectilinear_blocks.proofs.counts.put_counts.Statement.{statement}
-use Rattle.rectilinear_blocks.proofs.counts.put_counts.Tie as tie
+use Rattle.rectilinear_axis.specs.Axis.{countAt}
+use Rattle.rectilinear_axis.proofs.Cells.{Moving, moving-start, moving-next}
+use Rattle.rectilinear_axis.proofs.counts.put_counts.Statement.{statement}
+use Rattle.rectilinear_axis.proofs.counts.put_counts.Tie as tie
 
 abbrev Inv : tie.InvT-loop
 Inv knots xs at m counts₀ k₀ counts k = (k ≤ m) × Moving (countAt knots xs at) k counts₀ counts
