@@ -6,4 +6,5 @@ pub mod Outcomes
 pub mod Total
 pub mod Builds
 pub mod Blocks
+pub mod Weighed
 pub mod Singles

@@ -22,6 +22,15 @@ withRow rows j row = put (from (4 * j)) (λ p. getD row p nan) 4 rows
 unfoldable pub weightsOf : List Float → ℕ → ℕ → List (List Float)
 weightsOf rows cap k = rowAt rows k ∷ rowAt rows (cap + k) ∷ rowAt rows (2 * cap + k) ∷ rowAt rows (3 * cap + k) ∷ []
 
+-- m rows are written, from row number `base` on; those before are as they were
+pub record RowsPut (row : ℕ → List Float) (base m : ℕ) (old new : List Float) : Type 0 where
+  pub each : (k : ℕ) → k < m → rowAt new (base + k) ≡ row k
+  pub before : (j : ℕ) → j < base → rowAt new j ≡ rowAt old j
+
+-- the rows of the first a axes, for m queries of the cap that there is room for: `row b k` is that of axis b and query k
+pub record Weighed (row : ℕ → ℕ → List Float) (cap m a : ℕ) (rows : List Float) : Type 0 where
+  pub at : (b k : ℕ) → b < a → k < m → rowAt rows (cap * b + k) ≡ row b k
+
 -- from the first coefficient that counts of each of m queries on, and `reach` further, all lie within `coefs`
 pub record Firsts (firsts : List ℕ) (m reach coefs : ℕ) : Type 0 where
   pub within : (k : ℕ) → k < m → getD firsts k 0 + reach < coefs

@@ -1,18 +1,13 @@
--- The entries of a block, put one after the other into flat lists: numbers, and rows of four. Assumes nothing.
+-- Numbers of a block, put one after the other into a list. Assumes nothing.
 use mathlib.Core.Path.{_≡_, refl, _∙_}
 use mathlib.Core.Logic.{inl, inr}
 use mathlib.Core.List.{List}
-use Prim.Native.Nat.{ℕ, _+_, _*_, _≤_, _<_}
+use Prim.Native.Nat.{ℕ, _+_, _≤_, _<_}
 use native.Mathlib.Nat.{eq-or-lt-of-le}
 use native.Mathlib.Omega.{arith}
 use lib.ListN.{length, getD, set, length-set}
 use lib.Seq.{getD-set-same, getD-set-other}
-use lib.Ieee.{Float}
-use Rattle.evaluation.specs.Block.{withRow}
-use Rattle.evaluation.proofs.Blocks.{row-same, row-other}
-use Rattle.rectilinear_axis.specs.Axis.{Holds, RowsPut}
-
--- ---- numbers
+use Rattle.rectilinear_axis.specs.Axis.{Holds}
 
 holds-none : {entry : ℕ → ℕ} {list : List ℕ} → Holds entry 0 list
 holds-none = record { each = λ k h. absurd (let q : ⊥ = omega arith in q) }
@@ -42,19 +37,4 @@ moving-next {entry} {old} {new} {i} v w h e =
       same-length = length-set new i v ∙ w .same-length;
       done = holds-next v (w .done) (omega (arith, w .same-length)) e;
       after = λ k l. getD-set-other new i k v 0 (λ z. let y : ⊥ = omega arith in y) ∙ w .after k (omega arith);
-    }
-
--- ---- rows
-
-pub rows-start : {row : ℕ → List Float} {base : ℕ} {rows : List Float} → RowsPut row base 0 rows rows
-rows-start = record { each = λ k h. absurd (let q : ⊥ = omega arith in q); before = λ j h. refl }
-
-pub rows-more : {row : ℕ → List Float} {base i : ℕ} {old new new′ : List Float} (r : List Float) → RowsPut row base i old new → length r ≡ 4 → 4 * (base + i) + 4 ≤ length new → r ≡ row i → new′ ≡ withRow new (base + i) r → RowsPut row base (i + 1) old new′
-rows-more {row} {base} {i} {old} {new} r w four fits e put =
-    record {
-      each = λ k l. rw put (elim (eq-or-lt-of-le (let q : k ≤ i = omega arith in q)) [
-        | inl q ↦ rw q (row-same new (base + i) r four fits ∙ e)
-        | inr q ↦ row-other new (base + i) r (base + k) (λ z. let y : ⊥ = omega arith in y) ∙ w .each k q
-      ]);
-      before = λ j l. rw put (row-other new (base + i) r j (λ z. let y : ⊥ = omega arith in y) ∙ w .before j l);
     }

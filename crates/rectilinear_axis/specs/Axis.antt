@@ -8,20 +8,10 @@ use lib.Ieee.{Float, nan, Format}
 use Rattle.knots.specs.Knots.{countBelow}
 use Rattle.knots.specs.Place.{locOf, getLoc}
 use Rattle.rectilinear_weights.specs.Weights.{interpWeights, interpWeightDerivatives}
-use Rattle.evaluation.specs.Block.{rowAt}
 
 -- the first m entries of a list
 pub record Holds (entry : ℕ → ℕ) (m : ℕ) (list : List ℕ) : Type 0 where
   pub each : (k : ℕ) → k < m → getD list k 0 ≡ entry k
-
--- m rows from row number `base` on; those before are as they were
-pub record RowsPut (row : ℕ → List Float) (base m : ℕ) (old new : List Float) : Type 0 where
-  pub each : (k : ℕ) → k < m → rowAt new (base + k) ≡ row k
-  pub before : (j : ℕ) → j < base → rowAt new j ≡ rowAt old j
-
--- no axis looked at
-abbrev pub zeroAt : ℕ → ℕ
-zeroAt k = 0
 
 -- the knots below coordinate k
 unfoldable pub countAt : List Float → List Float → ℕ → ℕ → ℕ

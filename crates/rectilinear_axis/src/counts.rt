@@ -7,21 +7,9 @@ ghost use Prim.Native.Nat.{ℕ, _+_, _≤_, _<_};
 ghost use lib.ListN.{length};
 ghost use Rattle.shape.specs.Checks.{mostPoints};
 ghost use Rattle.knots.specs.Knots.{rises};
-ghost use Rattle.rectilinear_axis.specs.Axis.{Holds, zeroAt, countAt, movedAt};
+ghost use Rattle.rectilinear_axis.specs.Axis.{Holds, countAt, movedAt};
 use knots::count_below;
 use knots::loc_of;
-
-// Before the first axis.
-pub fn clear_firsts(m: usize, firsts: &mut [usize])
-    requires { ⌜ m ≤ length (now firsts) ⌝ }
-    ensures { λ _. ⌜ Holds zeroAt m (now (firsts .exit)) ⌝ }
-{
-    let mut k: usize = 0;
-    while k < m {
-        firsts[k] = 0;
-        k += 1;
-    }
-}
 
 // The knots below each coordinate.
 pub fn put_counts(knots: &[f64], xs: &[f64], at: usize, m: usize, counts: &mut [usize])

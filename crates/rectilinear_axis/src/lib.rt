@@ -3,7 +3,6 @@ mod counts;
 mod slopes;
 mod weights;
 
-pub use counts::clear_firsts;
 pub use counts::move_firsts;
 pub use counts::put_counts;
 pub use slopes::put_slopes;

@@ -17,8 +17,9 @@ use Rattle.evaluation.proofs.Reach.{below-small}
 use Rattle.rectilinear_blocks.specs.Map.{RectilinearMap}
 use Rattle.rectilinear_blocks.specs.Eval.{firstOn}
 use Rattle.rectilinear_blocks.specs.Sound.{Gridded}
-use Rattle.rectilinear_axis.specs.Axis.{Holds, RowsPut, zeroAt, countAt, movedAt, placeWeights, placeSlopes, weightsAt, slopesAt}
-use Rattle.rectilinear_blocks.specs.Block.{InBatch, countOn, firstAt, weightsFor, slopesFor, Weighed}
+use Rattle.evaluation.specs.Block.{RowsPut}
+use Rattle.rectilinear_axis.specs.Axis.{Holds, countAt, movedAt, placeWeights, placeSlopes, weightsAt, slopesAt}
+use Rattle.rectilinear_blocks.specs.Block.{InBatch, countOn, firstAt, weightsFor, slopesFor}
 use Rattle.rectilinear_axis.proofs.Located.{place-is}
 use Rattle.rectilinear_blocks.proofs.Places.{origin-on, first-next, first-below, weights-on, slopes-on}
 
@@ -60,9 +61,9 @@ module _ (count : ℕ) (lens : List ℕ) (grid xs : List Float) (n start : ℕ) 
     pub firsts-next : {firsts′ : List ℕ} → Holds (movedAt (length ks) s counts firsts) m firsts′ → Holds (firstAt count lens grid xs n start (a + 1)) m firsts′
     firsts-next e = record { each = λ k l. e .each k l ∙ moved-on k l }
 
-pub firsts-none : (count : ℕ) (lens : List ℕ) (grid xs : List Float) (n start : ℕ) {m : ℕ} {firsts : List ℕ} → Holds zeroAt m firsts → Holds (firstAt count lens grid xs n start 0) m firsts
+pub firsts-none : (count : ℕ) (lens : List ℕ) (grid xs : List Float) (n start : ℕ) {m : ℕ} {firsts : List ℕ} → ((k : ℕ) → k < m → getD firsts k 0 ≡ 0) → Holds (firstAt count lens grid xs n start 0) m firsts
 unfolding firstOn
-firsts-none count lens grid xs n start w = record { each = w .each }
+firsts-none count lens grid xs n start w = record { each = w }
 
 -- ---- rows
 
@@ -81,17 +82,3 @@ module _ (f : Format) (map : RectilinearMap) (grid xs : List Float) (n start a :
 -- there is room for those of an axis
 pub axis-room : (cap count a m : ℕ) {room : ℕ} → a < count → m ≤ cap → 4 * (cap * count) ≤ room → 4 * (cap * a + m) ≤ room
 axis-room cap count a m h few fits = omega (arith, mul-le-mul-left cap h)
-
--- ---- axis after axis
-
-pub weighed-none : {row : ℕ → ℕ → List Float} {cap m : ℕ} {rows : List Float} → Weighed row cap m 0 rows
-weighed-none = record { at = λ b k h l. absurd (let q : ⊥ = omega arith in q) }
-
-pub weighed-next : {row : ℕ → ℕ → List Float} {cap m a : ℕ} {old new : List Float} → m ≤ cap → Weighed row cap m a old → RowsPut (row a) (cap * a) m old new → Weighed row cap m (a + 1) new
-weighed-next {cap = cap} {a = a} few w p =
-    record {
-      at = λ b k h l. elim (eq-or-lt-of-le (let q : b ≤ a = omega arith in q)) [
-        | inl q ↦ rw q (p .each k l)
-        | inr q ↦ p .before (cap * b + k) (omega (arith, mul-le-mul-left cap q)) ∙ w .at b k q l
-      ];
-    }

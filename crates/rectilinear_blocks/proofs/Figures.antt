@@ -10,7 +10,7 @@ use Rattle.shape.specs.Cells.{put}
 use Rattle.interp_math.specs.Sum.{summed, gradientPart}
 use Rattle.evaluation.specs.Axes.{query, strides, parts, zeros, Ready}
 use Rattle.evaluation.specs.Batch.{badAt, valueStep, gradientStep, written}
-use Rattle.evaluation.specs.Block.{weightsOf, Firsts, reach, Block}
+use Rattle.evaluation.specs.Block.{Weighed, weightsOf, Firsts, reach, Block}
 use Rattle.evaluation.proofs.Blocks.{weights-on}
 use Rattle.evaluation.proofs.Entries.{within-by}
 use Rattle.evaluation.proofs.Outcomes.{value-block, gradient-block, slope-block}
@@ -18,7 +18,7 @@ use Rattle.rectilinear_blocks.specs.Map.{RectilinearMap}
 use Rattle.rectilinear_blocks.specs.Eval.{rectilinear, firstOn}
 use Rattle.rectilinear_blocks.specs.Sound.{Sound, Laid}
 use Rattle.rectilinear_axis.specs.Axis.{Holds}
-use Rattle.rectilinear_blocks.specs.Block.{firstAt, weightsFor, slopesFor, Weighed}
+use Rattle.rectilinear_blocks.specs.Block.{firstAt, weightsFor, slopesFor}
 use Rattle.rectilinear_blocks.proofs.Places.{reaches, value-is, part-is, slope-is}
 
 pub ready : {count : ℕ} {lens ss : List ℕ} {grid : List Float} → Laid count lens grid ss → Ready count lens ss

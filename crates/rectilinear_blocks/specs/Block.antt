@@ -1,10 +1,8 @@
 -- A block of queries, from query `start` of n on, axis by axis: what its buffers hold. Assumes nothing.
-use mathlib.Core.Path.{_≡_}
 use mathlib.Core.List.{List}
 use Prim.Native.Nat.{ℕ, _+_, _*_, _≤_, _<_}
 use lib.Ieee.{Float, Format}
 use Rattle.evaluation.specs.Axes.{query}
-use Rattle.evaluation.specs.Block.{rowAt}
 use Rattle.rectilinear_blocks.specs.Map.{RectilinearMap}
 use Rattle.rectilinear_blocks.specs.Eval.{knotsOn, firstOn, weightsOn, slopesOn}
 use Rattle.rectilinear_axis.specs.Axis.{countAt}
@@ -30,7 +28,3 @@ module _ (f : Format) (m : RectilinearMap) (grid xs : List Float) (n start a k :
 
   abbrev pub slopesFor : List Float
   slopesFor = slopesOn f m grid (query (m .count) xs n (start + k)) a
-
--- the rows of the first a axes, for m queries of the cap that there is room for
-pub record Weighed (row : ℕ → ℕ → List Float) (cap m a : ℕ) (rows : List Float) : Type 0 where
-  pub at : (b k : ℕ) → b < a → k < m → rowAt rows (cap * b + k) ≡ row b k

@@ -5,10 +5,11 @@ ghost use lib.ListN.{length};
 ghost use lib.Ieee.{binary64};
 ghost use Rattle.rectilinear_blocks.specs.Map.{RectilinearMap, ghosts};
 ghost use Rattle.rectilinear_blocks.specs.Sound.{Gridded, Laid};
-ghost use Rattle.rectilinear_axis.specs.Axis.{Holds, RowsPut};
-ghost use Rattle.rectilinear_blocks.specs.Block.{countOn, firstAt, weightsFor, slopesFor, InBatch, Weighed};
+ghost use Rattle.rectilinear_axis.specs.Axis.{Holds};
+ghost use Rattle.evaluation.specs.Block.{RowsPut, Weighed};
+ghost use Rattle.rectilinear_blocks.specs.Block.{countOn, firstAt, weightsFor, slopesFor, InBatch};
 use knots::axis_knots;
-use rectilinear_axis::clear_firsts;
+use evaluation::zero_firsts;
 use rectilinear_axis::move_firsts;
 use rectilinear_axis::put_counts;
 use rectilinear_axis::put_slopes;
@@ -131,7 +132,7 @@ pub fn weigh_axes(
     ensures { λ _. ⌜ Holds (firstAt count dims (now (grid .entry)) (now (xs .entry)) n from count) m (now (firsts .exit)) ⌝ }
     ensures { λ _. ⌜ Weighed (weightsFor binary64 (record { count = count; lens = dims; low = ghosts low; high = ghosts high; linear = linear }) (now (grid .entry)) (now (xs .entry)) n from) cap m count (now (rows .exit)) ⌝ }
 {
-    clear_firsts(m, firsts);
+    zero_firsts(m, firsts);
     let mut a: usize = 0;
     while a < count {
         place_axis(
@@ -191,7 +192,7 @@ pub fn weigh_axes_both(
     ensures { λ _. ⌜ Holds (firstAt count dims (now (grid .entry)) (now (xs .entry)) n from count) m (now (firsts .exit)) ⌝ }
     ensures { λ _. ⌜ Weighed (weightsFor binary64 (record { count = count; lens = dims; low = ghosts low; high = ghosts high; linear = linear }) (now (grid .entry)) (now (xs .entry)) n from) cap m count (now (rows .exit)) × Weighed (slopesFor binary64 (record { count = count; lens = dims; low = ghosts low; high = ghosts high; linear = linear }) (now (grid .entry)) (now (xs .entry)) n from) cap m count (now (slopes .exit)) ⌝ }
 {
-    clear_firsts(m, firsts);
+    zero_firsts(m, firsts);
     let mut a: usize = 0;
     while a < count {
         place_axis(
@@ -266,7 +267,7 @@ pub fn slope_first(
     ensures { λ _. ⌜ Holds (firstAt count dims (now (grid .entry)) (now (xs .entry)) n from 1) m (now (firsts .exit)) ⌝ }
     ensures { λ _. ⌜ Weighed (slopesFor binary64 (record { count = count; lens = dims; low = ghosts low; high = ghosts high; linear = linear }) (now (grid .entry)) (now (xs .entry)) n from) cap m 1 (now (slopes .exit)) ⌝ }
 {
-    clear_firsts(m, firsts);
+    zero_firsts(m, firsts);
     place_axis(
         count,
         dims,

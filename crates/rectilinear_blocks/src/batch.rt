@@ -12,19 +12,9 @@ ghost use Rattle.rectilinear_blocks.specs.Eval.{valueAt, partAt, rectili
 ghost use Rattle.rectilinear_blocks.specs.Sound.{Sound, Laid};
 use crate::block::gradients_block;
 use crate::block::values_block;
+use evaluation::block_size;
 use evaluation::strides_of;
 use rectilinear_weights::Ghost;
-
-// How many queries from `from` on make a block: 32, or those that are left.
-fn block_size(from: usize, n: usize) -> usize
-    requires { ⌜ from < n ⌝ }
-    ensures { λ r. ⌜ (0 < r) × (r ≤ 32) × (from + r ≤ n) ⌝ }
-{
-    if n - from < 32 {
-        return n - from;
-    }
-    32
-}
 
 fn value_blocks(
     count: usize,

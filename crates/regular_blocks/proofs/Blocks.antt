@@ -19,7 +19,7 @@ use Rattle.regular_blocks.proofs.Firsts.{no-cell, has-cell, reaches, va
 -- the rows of entry k, as a table
 rows-of : {row : List Float → ℕ → List Float} {count : ℕ} {xs : List Float} {n start cap good : ℕ} (rows : List Float) → RowsTo row count xs n start cap count good rows → count ≤ 4 → (k : ℕ) → k < good
     → RowsOn count (row (query count xs n (start + k))) (weightsOf rows cap k)
-rows-of {cap = cap} rows w few k g = weights-on rows cap k few (λ a h. w .at a k h g)
+rows-of {cap = cap} rows w few k g = weights-on rows cap k few (λ a h. w .weighed .at a k h g)
 
 module _ (f : Format) (map : RegularMap) (xs : List Float) (n start m : ℕ) {good : ℕ} {firsts : List ℕ} (w : FirstsTo f map xs n start m (map .count) good firsts) where
   pub entry-good : (k : ℕ) → k < good → refuses f map (query (map .count) xs n (start + k)) ≡ false

@@ -1,5 +1,5 @@
 pub mod Placing
-pub mod RowsFrom
+pub mod Writing
 pub mod Firsts
 pub mod Weighing
 pub mod Blocks

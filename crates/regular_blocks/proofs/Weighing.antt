@@ -7,8 +7,7 @@ use Prim.Native.Nat.{ℕ, suc, _+_, _*_, _≤_, _<_}
 use native.Mathlib.Nat.{eq-or-lt-of-le, mul-le-mul-left, mul-le-mul-right}
 use native.Mathlib.Omega.{arith}
 use native.Mathlib.Numerals.{add-one}
-use lib.ListN.{length, getD, set, take}
-use lib.Seq.{getD-set-same, getD-set-other}
+use lib.ListN.{length, getD, take}
 use lib.Ieee.{Float, nan, Format}
 use Rattle.shape.specs.Shape.{stride}
 use Rattle.shape.specs.Sizes.{strideOf}
@@ -16,12 +15,14 @@ use Rattle.shape.proofs.Accepted.{room, axis-small, usable-accepted, stride-is,
 use Rattle.regular_weights.specs.Place.{getLoc}
 use Rattle.regular_weights.specs.declared.place.Loc.{Loc}
 use Rattle.evaluation.specs.Axes.{query, Ready}
+use Rattle.evaluation.specs.Block.{RowsPut}
 use Rattle.evaluation.proofs.Entries.{query-at, stride-at}
 use Rattle.evaluation.proofs.Reach.{below-small}
+use Rattle.evaluation.proofs.Weighed.{weighed-none, weighed-next}
 use Rattle.regular_blocks.specs.First as First
 use Rattle.regular_blocks.specs.Map.{RegularMap}
 use Rattle.regular_blocks.specs.Eval.{locOn, firstOn, weightsOn, slopesOn}
-use Rattle.regular_blocks.specs.Axis.{Axis, Places, weightRow, slopeRow, RowsFrom}
+use Rattle.regular_blocks.specs.Axis.{Axis, Places, weightRow, slopeRow}
 use Rattle.regular_blocks.specs.Block.{Room, FirstsTo, RowsTo}
 use Rattle.regular_blocks.proofs.Firsts.{first-below}
 
@@ -45,14 +46,6 @@ module _ {count n start cap m xs firsts sats ts rows : ℕ} (w : Room count n st
 
   pub axis-rows : 4 * (cap * a + good) ≤ rows
   axis-rows = omega (arith, mul-le-mul-left cap (let s : suc a ≤ count = h in s), w .block, w .in-rows)
-
--- ---- before any axis
-
-pub zero-next : (firsts : List ℕ) (k : ℕ) → ((j : ℕ) → j < k → getD firsts j 0 ≡ 0) → k < length firsts → (j : ℕ) → j < k + 1 → getD (set firsts k 0) j 0 ≡ 0
-zero-next firsts k w h j g = elim (eq-or-lt-of-le (let q : j ≤ k = omega arith in q)) [
-  | inl q ↦ rw q (getD-set-same firsts k 0 0 h)
-  | inr q ↦ getD-set-other firsts k j 0 0 (λ z. let y : ⊥ = omega arith in y) ∙ w j q
-]
 
 -- ---- one axis more
 
@@ -97,27 +90,19 @@ module _ (f : Format) (map : RegularMap) (xs : List Float) (n start : ℕ) where
           go g (inr l) = rw (add-one a) (rw (w .found r l, on-axis r (p .stopped l)))
 
       module _ {cap : ℕ} {rows rows′ : List Float} (most : good ≤ cap) where
-        rows-more : (entry : ℕ → List Float) (row : List Float → ℕ → List Float) → ((k : ℕ) → k < r → entry k ≡ row (query (map .count) xs n (start + k)) a)
-            → RowsTo row (map .count) xs n start cap a good rows → RowsFrom entry (cap * a) r rows rows′ → RowsTo row (map .count) xs n start cap (a + 1) r rows′
-        rows-more entry row same w new =
-            record {
-              at = λ b k g l. elim (eq-or-lt-of-le (let q : b ≤ a = omega arith in q)) [
-                | inl q ↦ rw q (new .here k l ∙ same k l)
-                | inr q ↦
-                    let less : cap * suc b ≤ cap * a = mul-le-mul-left cap q in
-                    new .below (cap * b + k) (omega (arith, p .most, less)) ∙ w .at b k q (omega (arith, p .most))
-              ];
-            }
+        rows-on : (entry : ℕ → List Float) (row : List Float → ℕ → List Float) → ((k : ℕ) → k < r → entry k ≡ row (query (map .count) xs n (start + k)) a)
+            → RowsTo row (map .count) xs n start cap a good rows → RowsPut entry (cap * a) r rows rows′ → RowsTo row (map .count) xs n start cap (a + 1) r rows′
+        rows-on entry row same w new = record { weighed = weighed-next most (p .most) (w .weighed) (record { each = λ k l. new .each k l ∙ same k l; before = new .before }) }
 
-        pub weights-next : RowsTo (weightsOn f map) (map .count) xs n start cap a good rows → RowsFrom (weightRow f (map .linear) sats ts) (cap * a) r rows rows′
+        pub weights-next : RowsTo (weightsOn f map) (map .count) xs n start cap a good rows → RowsPut (weightRow f (map .linear) sats ts) (cap * a) r rows rows′
             → RowsTo (weightsOn f map) (map .count) xs n start cap (a + 1) r rows′
         unfolding weightsOn weightRow
-        weights-next = rows-more _ _ (λ k g. let q = p .placed k g in rw (on-axis k (q .place), ← coordinate k, q .past))
+        weights-next = rows-on _ _ (λ k g. let q = p .placed k g in rw (on-axis k (q .place), ← coordinate k, q .past))
 
-        pub slopes-next : RowsTo (slopesOn f map) (map .count) xs n start cap a good rows → RowsFrom (slopeRow f (map .linear) (getD (map .steps) a nan) sats ts) (cap * a) r rows rows′
+        pub slopes-next : RowsTo (slopesOn f map) (map .count) xs n start cap a good rows → RowsPut (slopeRow f (map .linear) (getD (map .steps) a nan) sats ts) (cap * a) r rows rows′
             → RowsTo (slopesOn f map) (map .count) xs n start cap (a + 1) r rows′
         unfolding slopesOn slopeRow
-        slopes-next = rows-more _ _ (λ k g. let q = p .placed k g in rw (on-axis k (q .place), ← coordinate k, q .past))
+        slopes-next = rows-on _ _ (λ k g. let q = p .placed k g in rw (on-axis k (q .place), ← coordinate k, q .past))
 
 -- ---- the loop over the axes
 
@@ -160,7 +145,7 @@ module _ (f : Format) (map : RegularMap) (xs : List Float) (n start m : ℕ) (fi
 
 module _ {row : List Float → ℕ → List Float} {count : ℕ} {xs : List Float} {n start cap : ℕ} {good : ℕ} {rows : List Float} where
   pub no-rows : RowsTo row count xs n start cap 0 good rows
-  no-rows = record { at = λ b k h g. absurd (let q : ⊥ = omega arith in q) }
+  no-rows = record { weighed = weighed-none }
 
   pub all-rows : {a : ℕ} → RowsTo row count xs n start cap a good rows → a ≤ count → count ≤ a → RowsTo row count xs n start cap count good rows
   all-rows {a} w h g = let e : a ≡ count = omega arith in rw e at w
@@ -177,7 +162,7 @@ module _ (f : Format) (map : RegularMap) (xs : List Float) (n start : ℕ) {ss :
       let u = ready .shape in
       firsts-next f map xs n start (u .at-most-four) 0 (omega (arith, u .some-axis)) at-start (stride-at (map .count) (map .lens) 0 (ready .strides-are) (omega arith)) (firsts-start f map xs n start zeros)
 
-  pub only-slopes : {cap : ℕ} {rows rows′ : List Float} → m ≤ cap → RowsFrom (slopeRow f (map .linear) (getD (map .steps) 0 nan) sats ts) 0 good rows rows′
+  pub only-slopes : {cap : ℕ} {rows rows′ : List Float} → m ≤ cap → RowsPut (slopeRow f (map .linear) (getD (map .steps) 0 nan) sats ts) 0 good rows rows′
       → RowsTo (slopesOn f map) (map .count) xs n start cap 1 good rows′
   only-slopes {cap} {rows} most new =
       let u = ready .shape in

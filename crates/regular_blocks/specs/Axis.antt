@@ -15,7 +15,6 @@ use Rattle.multibspline.specs.declared.saturation.Saturation.the-variants.{None
 use Rattle.regular_weights.specs.Place.{getLoc, pastOrigin}
 use Rattle.regular_weights.specs.Weights.{interpWeights, interpWeightDerivatives}
 use Rattle.regular_weights.specs.declared.place.Loc.the-variants.{At, Unrepresentable}
-use Rattle.evaluation.specs.Block.{rowAt}
 
 -- ---- a place as a number, and back
 
@@ -71,8 +70,3 @@ weightRow f linear sats ts k = interpWeights f linear (satOf (getD sats k 0)) (g
 
 unfoldable pub slopeRow : Format → Bool → Float → List ℕ → List Float → ℕ → List Float
 slopeRow f linear step sats ts k = interpWeightDerivatives f linear (satOf (getD sats k 0)) step (getD ts k nan)
-
--- m rows are written, from row number `base` on; those below are as they were
-pub record RowsFrom (row : ℕ → List Float) (base m : ℕ) (rows rows′ : List Float) : Type 0 where
-  pub here : (k : ℕ) → k < m → rowAt rows′ (base + k) ≡ row k
-  pub below : (j : ℕ) → j < base → rowAt rows′ j ≡ rowAt rows j

@@ -8,7 +8,7 @@ use Prim.Native.Nat.{ℕ, _+_, _*_, _≤_, _<_}
 use lib.ListN.{getD}
 use lib.Ieee.{Float, Format}
 use Rattle.evaluation.specs.Axes.{query}
-use Rattle.evaluation.specs.Block.{rowAt}
+use Rattle.evaluation.specs.Block.{Weighed}
 use Rattle.regular_blocks.specs.First.{At, Unrepresentable}
 use Rattle.regular_blocks.specs.Map.{RegularMap}
 use Rattle.regular_blocks.specs.Eval.{firstOn}
@@ -31,4 +31,4 @@ pub record FirstsTo (f : Format) (map : RegularMap) (xs : List Float) (n start m
 
 -- the rows of the axes so far, `row x b` for axis b of a query x
 pub record RowsTo (row : List Float → ℕ → List Float) (count : ℕ) (xs : List Float) (n start cap a good : ℕ) (rows : List Float) : Type 0 where
-  pub at : (b k : ℕ) → b < a → k < good → rowAt rows (cap * b + k) ≡ row (query count xs n (start + k)) b
+  pub weighed : Weighed (λ b k. row (query count xs n (start + k)) b) cap good a rows

@@ -11,18 +11,6 @@ use crate::axis::slope_axis;
 use crate::axis::weigh_axis;
 use crate::axis::weigh_axis_both;
 
-// Before any axis is looked at.
-pub fn zero_firsts(m: usize, firsts: &mut [usize])
-    requires { ⌜ m ≤ length (now firsts) ⌝ }
-    ensures { λ _. ⌜ ((k : ℕ) → k < m → getD (now (firsts .exit)) k 0 ≡ 0) ⌝ }
-{
-    let mut k: usize = 0;
-    while k < m {
-        firsts[k] = 0;
-        k += 1;
-    }
-}
-
 // The weights of the axes, and the first of the coefficients that count, the sum of origin times stride over the axes, for
 // each entry up to the first that some axis refuses: how many come before it. An axis looks at the entries that the axes
 // before it have a place for.

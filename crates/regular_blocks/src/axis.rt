@@ -6,7 +6,8 @@ ghost use lib.ListN.{length, getD};
 ghost use lib.Ieee.{binary64};
 ghost use Rattle.regular_weights.specs.Weights.{interpWeights, interpWeightDerivatives};
 ghost use Rattle.evaluation.specs.Block.{withRow};
-ghost use Rattle.regular_blocks.specs.Axis.{satOf, Axis, Places, weightRow, slopeRow, RowsFrom};
+ghost use Rattle.evaluation.specs.Block.{RowsPut};
+ghost use Rattle.regular_blocks.specs.Axis.{satOf, Axis, Places, weightRow, slopeRow};
 use crate::places::places;
 use crate::places::sat_of;
 use evaluation::put_row;
@@ -34,7 +35,7 @@ fn put_slopes(linear: bool, step: f64, sat: usize, t: f64, j: usize, rows: &mut 
 // The weights of m entries: rows base, base + 1, ..
 fn weights(linear: bool, m: usize, base: usize, sats: &[usize], ts: &[f64], rows: &mut [f64])
     requires { ⌜ (m ≤ length (now sats)) × (m ≤ length (now ts)) × (4 * (base + m) ≤ length (now rows)) ⌝ }
-    ensures { λ _. ⌜ RowsFrom (weightRow binary64 linear (now (sats .entry)) (now (ts .entry))) base m (now (rows .entry)) (now (rows .exit)) ⌝ }
+    ensures { λ _. ⌜ RowsPut (weightRow binary64 linear (now (sats .entry)) (now (ts .entry))) base m (now (rows .entry)) (now (rows .exit)) ⌝ }
 {
     let mut k: usize = 0;
     while k < m {
@@ -54,7 +55,7 @@ fn slopes(
     rows: &mut [f64],
 )
     requires { ⌜ (m ≤ length (now sats)) × (m ≤ length (now ts)) × (4 * (base + m) ≤ length (now rows)) ⌝ }
-    ensures { λ _. ⌜ RowsFrom (slopeRow binary64 linear step (now (sats .entry)) (now (ts .entry))) base m (now (rows .entry)) (now (rows .exit)) ⌝ }
+    ensures { λ _. ⌜ RowsPut (slopeRow binary64 linear step (now (sats .entry)) (now (ts .entry))) base m (now (rows .entry)) (now (rows .exit)) ⌝ }
 {
     let mut k: usize = 0;
     while k < m {
@@ -84,7 +85,7 @@ pub fn weigh_axis(
     requires { ⌜ (at + m ≤ length (now xs)) × (m ≤ length (now firsts)) × (m ≤ length (now sats)) × (m ≤ length (now ts)) ⌝ }
     requires { ⌜ 4 * (base + m) ≤ length (now rows) ⌝ }
     ensures { λ r. ⌜ Places binary64 n start step stride (now (xs .entry)) at m (now (firsts .entry)) r (now (firsts .exit)) (now (sats .exit)) (now (ts .exit)) ⌝ }
-    ensures { λ r. ⌜ RowsFrom (weightRow binary64 linear (now (sats .exit)) (now (ts .exit))) base r (now (rows .entry)) (now (rows .exit)) ⌝ }
+    ensures { λ r. ⌜ RowsPut (weightRow binary64 linear (now (sats .exit)) (now (ts .exit))) base r (now (rows .entry)) (now (rows .exit)) ⌝ }
 {
     let good = places(n, start, step, stride, xs, at, m, firsts, sats, ts);
     weights(linear, good, base, sats, ts, rows);
@@ -112,8 +113,8 @@ pub fn weigh_axis_both(
     requires { ⌜ (at + m ≤ length (now xs)) × (m ≤ length (now firsts)) × (m ≤ length (now sats)) × (m ≤ length (now ts)) ⌝ }
     requires { ⌜ (4 * (base + m) ≤ length (now rows)) × (4 * (base + m) ≤ length (now «slope_rows»)) ⌝ }
     ensures { λ r. ⌜ Places binary64 n start step stride (now (xs .entry)) at m (now (firsts .entry)) r (now (firsts .exit)) (now (sats .exit)) (now (ts .exit)) ⌝ }
-    ensures { λ r. ⌜ RowsFrom (weightRow binary64 linear (now (sats .exit)) (now (ts .exit))) base r (now (rows .entry)) (now (rows .exit)) ⌝ }
-    ensures { λ r. ⌜ RowsFrom (slopeRow binary64 linear step (now (sats .exit)) (now (ts .exit))) base r (now («slope_rows» .entry)) (now («slope_rows» .exit)) ⌝ }
+    ensures { λ r. ⌜ RowsPut (weightRow binary64 linear (now (sats .exit)) (now (ts .exit))) base r (now (rows .entry)) (now (rows .exit)) ⌝ }
+    ensures { λ r. ⌜ RowsPut (slopeRow binary64 linear step (now (sats .exit)) (now (ts .exit))) base r (now («slope_rows» .entry)) (now («slope_rows» .exit)) ⌝ }
 {
     let good = places(n, start, step, stride, xs, at, m, firsts, sats, ts);
     weights(linear, good, base, sats, ts, rows);
@@ -141,7 +142,7 @@ pub fn slope_axis(
     requires { ⌜ (at + m ≤ length (now xs)) × (m ≤ length (now firsts)) × (m ≤ length (now sats)) × (m ≤ length (now ts)) ⌝ }
     requires { ⌜ 4 * (base + m) ≤ length (now rows) ⌝ }
     ensures { λ r. ⌜ Places binary64 n start step stride (now (xs .entry)) at m (now (firsts .entry)) r (now (firsts .exit)) (now (sats .exit)) (now (ts .exit)) ⌝ }
-    ensures { λ r. ⌜ RowsFrom (slopeRow binary64 linear step (now (sats .exit)) (now (ts .exit))) base r (now (rows .entry)) (now (rows .exit)) ⌝ }
+    ensures { λ r. ⌜ RowsPut (slopeRow binary64 linear step (now (sats .exit)) (now (ts .exit))) base r (now (rows .entry)) (now (rows .exit)) ⌝ }
 {
     let good = places(n, start, step, stride, xs, at, m, firsts, sats, ts);
     slopes(linear, step, good, base, sats, ts, rows);

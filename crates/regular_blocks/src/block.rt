@@ -12,9 +12,9 @@ ghost use Rattle.regular_blocks.specs.Block.{Room};
 use crate::axes::slope_only_axis;
 use crate::axes::weigh_axes;
 use crate::axes::weigh_axes_both;
-use crate::axes::zero_firsts;
 use block_sums::put_gradients;
 use block_sums::put_values;
+use evaluation::zero_firsts;
 
 // The values of the m entries from `from` on, up to the first that is refused: how many come before it.
 pub fn values_block(

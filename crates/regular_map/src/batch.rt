@@ -10,22 +10,12 @@ ghost use Rattle.evaluation.specs.Axes.{Ready};
 ghost use Rattle.evaluation.specs.Batch.{badAt, valueStep, gradientStep, Entries, ValueBatch, GradientBatch};
 ghost use Rattle.regular_blocks.specs.Checks.{regular};
 use crate::build::check_map;
+use evaluation::block_size;
 use evaluation::strides_of;
 use regular_blocks::gradients_block;
 use regular_blocks::values_block;
 use shape::Answer;
 use shape::Refusal;
-
-// How many queries from `from` on are evaluated together: 32, or those that are left.
-fn block_size(from: usize, n: usize) -> usize
-    requires { ⌜ from < n ⌝ }
-    ensures { λ r. ⌜ (0 < r) × (r ≤ 32) × (from + r ≤ n) ⌝ }
-{
-    if n - from < 32 {
-        return n - from;
-    }
-    32
-}
 
 // The values of n queries, block by block, up to the first that is refused.
 fn put_values(

@@ -1,3 +1,4 @@
+use Rattle.evaluation.proofs.Weighed.{weighed-none, weighed-same}
 use mathlib.Core.Path.{_≡_}
 use Prim.Native.Nat.{_-_, _≤_, _<_}
 use native.Mathlib.Omega.{arith}
@@ -6,8 +7,9 @@ use lib.ListN.{length}
 use lib.Ieee.{binary64}
 use Rattle.rectilinear_blocks.specs.Map.{ghosts}
 use Rattle.rectilinear_axis.specs.Axis.{Holds}
-use Rattle.rectilinear_blocks.specs.Block.{firstAt, weightsFor, Weighed}
-use Rattle.rectilinear_blocks.proofs.Blocks.{firsts-none, weighed-none, weighed-next}
+use Rattle.evaluation.specs.Block.{Weighed}
+use Rattle.rectilinear_blocks.specs.Block.{firstAt, weightsFor}
+use Rattle.rectilinear_blocks.proofs.Blocks.{firsts-none}
 use Rattle.rectilinear_blocks.proofs.axes.weigh_axes.Statement.{statement}
 use Rattle.rectilinear_blocks.proofs.axes.weigh_axes.Tie as tie
 
@@ -27,7 +29,7 @@ loop-holds : tie.Need-loop-holds Inv μ
 loop-holds c =
     let f = c .before .before in
     let a = f .before .before .before .before .before .before .before .args in
-    (omega arith, omega arith, omega arith, omega arith, firsts-none (a .count) (a .dims) (now (a .grid)) (now (a .xs)) (a .n) (a .from) (f .clear-firsts .ensures), weighed-none)
+    (omega arith, omega arith, omega arith, omega arith, firsts-none (a .count) (a .dims) (now (a .grid)) (now (a .xs)) (a .n) (a .from) (f .zero-firsts .ensures), weighed-none)
 
 place-axis-requires : tie.Need-place-axis-requires Inv μ
 place-axis-requires c κs =
@@ -51,7 +53,7 @@ loop-again c =
     let t = p .before .before .before in
     let l = t .before in
     let s = l .before .before .before .before .before .before .before .before .before .before in
-    (omega (arith, t .loop-test .taken), omega (arith, l .loop .inv .1, p .place-axis .kept .1 .1 .1 .1 .1 .1 .1 .1 .1 .0), omega (arith, l .loop .inv .2, p .place-axis .kept .1 .1 .1 .1 .1 .1 .1 .1 .1 .1 .0), omega (arith, l .loop .inv .3), p .place-axis .ensures .1, weighed-next (s .pre .1 .0) (l .loop .inv .5) (w .weigh-axis .ensures))
+    (omega (arith, t .loop-test .taken), omega (arith, l .loop .inv .1, p .place-axis .kept .1 .1 .1 .1 .1 .1 .1 .1 .1 .0), omega (arith, l .loop .inv .2, p .place-axis .kept .1 .1 .1 .1 .1 .1 .1 .1 .1 .1 .0), omega (arith, l .loop .inv .3), p .place-axis .ensures .1, weighed-same (s .pre .1 .0) (l .loop .inv .5) (w .weigh-axis .ensures))
 
 returns : tie.Need-returns Inv μ
 returns c =

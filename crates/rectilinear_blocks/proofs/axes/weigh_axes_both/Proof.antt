@@ -1,3 +1,4 @@
+use Rattle.evaluation.proofs.Weighed.{weighed-none, weighed-same}
 use mathlib.Core.Path.{_≡_}
 use Prim.Native.Nat.{_-_, _≤_, _<_}
 use native.Mathlib.Omega.{arith}
@@ -6,8 +7,9 @@ use lib.ListN.{length}
 use lib.Ieee.{binary64}
 use Rattle.rectilinear_blocks.specs.Map.{ghosts}
 use Rattle.rectilinear_axis.specs.Axis.{Holds}
-use Rattle.rectilinear_blocks.specs.Block.{firstAt, weightsFor, slopesFor, Weighed}
-use Rattle.rectilinear_blocks.proofs.Blocks.{firsts-none, weighed-none, weighed-next}
+use Rattle.evaluation.specs.Block.{Weighed}
+use Rattle.rectilinear_blocks.specs.Block.{firstAt, weightsFor, slopesFor}
+use Rattle.rectilinear_blocks.proofs.Blocks.{firsts-none}
 use Rattle.rectilinear_blocks.proofs.axes.weigh_axes_both.Statement.{statement}
 use Rattle.rectilinear_blocks.proofs.axes.weigh_axes_both.Tie as tie
 
@@ -29,7 +31,7 @@ loop-holds : tie.Need-loop-holds Inv μ
 loop-holds c =
     let f = c .before .before in
     let a = f .before .before .before .before .before .before .before .before .args in
-    (omega arith, omega arith, omega arith, omega arith, omega arith, firsts-none (a .count) (a .dims) (now (a .grid)) (now (a .xs)) (a .n) (a .from) (f .clear-firsts .ensures), weighed-none, weighed-none)
+    (omega arith, omega arith, omega arith, omega arith, omega arith, firsts-none (a .count) (a .dims) (now (a .grid)) (now (a .xs)) (a .n) (a .from) (f .zero-firsts .ensures), weighed-none, weighed-none)
 
 place-axis-requires : tie.Need-place-axis-requires Inv μ
 place-axis-requires c κs =
@@ -68,8 +70,8 @@ loop-again c =
       omega (arith, l .loop .inv .3, w .weigh-axis .kept .1 .1 .1 .1 .1 .1 .1 .1 .1 .1 .1 .1 .1 .0),
       omega (arith, l .loop .inv .4),
       p .place-axis .ensures .1,
-      weighed-next (s .pre .1 .0) (l .loop .inv .6) (w .weigh-axis .ensures),
-      weighed-next (s .pre .1 .0) (l .loop .inv .7) (d .slope-axis .ensures),
+      weighed-same (s .pre .1 .0) (l .loop .inv .6) (w .weigh-axis .ensures),
+      weighed-same (s .pre .1 .0) (l .loop .inv .7) (d .slope-axis .ensures),
     )
 
 returns : tie.Need-returns Inv μ

@@ -2,9 +2,9 @@ use mathlib.Core.Path.{_≡_, refl, _∙_}
 use Prim.Native.Nat.{ℕ, _-_, _≤_, _<_}
 use native.Mathlib.Omega.{arith}
 use lib.ListN.{length, getD, length-set}
-use Rattle.regular_blocks.proofs.Weighing.{zero-next}
-use Rattle.regular_blocks.proofs.axes.zero_firsts.Statement.{statement}
-use Rattle.regular_blocks.proofs.axes.zero_firsts.Tie as tie
+use Rattle.evaluation.proofs.Weighed.{zero-next}
+use Rattle.evaluation.proofs.block.zero_firsts.Statement.{statement}
+use Rattle.evaluation.proofs.block.zero_firsts.Tie as tie
 
 abbrev Inv : tie.InvT-loop
 Inv m firsts₀ k₀ firsts k = (k ≤ m) × (length firsts ≡ length firsts₀) × ((j : ℕ) → j < k → getD firsts j 0 ≡ 0)

@@ -1,0 +1,53 @@
+-- Rows of a block, put one after the other and axis after axis, and first coefficients before any axis. Assumes nothing.
+use mathlib.Core.Path.{_≡_, refl, _∙_}
+use mathlib.Core.Logic.{inl, inr}
+use mathlib.Core.List.{List}
+use Prim.Native.Nat.{ℕ, suc, _+_, _*_, _≤_, _<_}
+use native.Mathlib.Nat.{eq-or-lt-of-le, mul-le-mul-left}
+use native.Mathlib.Omega.{arith}
+use lib.ListN.{length, getD, set}
+use lib.Seq.{getD-set-same, getD-set-other}
+use lib.Ieee.{Float}
+use Rattle.evaluation.specs.Block.{withRow, RowsPut, Weighed}
+use Rattle.evaluation.proofs.Blocks.{row-same, row-other}
+
+-- ---- row after row
+
+pub rows-start : {row : ℕ → List Float} {base : ℕ} {rows : List Float} → RowsPut row base 0 rows rows
+rows-start = record { each = λ k h. absurd (let q : ⊥ = omega arith in q); before = λ j h. refl }
+
+pub rows-more : {row : ℕ → List Float} {base i : ℕ} {old new new′ : List Float} (r : List Float) → RowsPut row base i old new → length r ≡ 4 → 4 * (base + i) + 4 ≤ length new → r ≡ row i → new′ ≡ withRow new (base + i) r → RowsPut row base (i + 1) old new′
+rows-more {row} {base} {i} {old} {new} r w four fits e put =
+    record {
+      each = λ k l. rw put (elim (eq-or-lt-of-le (let q : k ≤ i = omega arith in q)) [
+        | inl q ↦ rw q (row-same new (base + i) r four fits ∙ e)
+        | inr q ↦ row-other new (base + i) r (base + k) (λ z. let y : ⊥ = omega arith in y) ∙ w .each k q
+      ]);
+      before = λ j l. rw put (row-other new (base + i) r j (λ z. let y : ⊥ = omega arith in y) ∙ w .before j l);
+    }
+
+-- ---- axis after axis
+
+pub weighed-none : {row : ℕ → ℕ → List Float} {cap m : ℕ} {rows : List Float} → Weighed row cap m 0 rows
+weighed-none = record { at = λ b k h l. absurd (let q : ⊥ = omega arith in q) }
+
+-- the next axis may have fewer entries than those before it
+pub weighed-next : {row : ℕ → ℕ → List Float} {cap m r a : ℕ} {old new : List Float} → m ≤ cap → r ≤ m → Weighed row cap m a old → RowsPut (row a) (cap * a) r old new → Weighed row cap r (a + 1) new
+weighed-next {cap = cap} {a = a} few less w p =
+    record {
+      at = λ b k h l. elim (eq-or-lt-of-le (let q : b ≤ a = omega arith in q)) [
+        | inl q ↦ rw q (p .each k l)
+        | inr q ↦ let below : cap * suc b ≤ cap * a = mul-le-mul-left cap q in p .before (cap * b + k) (omega (arith, below)) ∙ w .at b k q (omega arith)
+      ];
+    }
+
+pub weighed-same : {row : ℕ → ℕ → List Float} {cap m a : ℕ} {old new : List Float} → m ≤ cap → Weighed row cap m a old → RowsPut (row a) (cap * a) m old new → Weighed row cap m (a + 1) new
+weighed-same {m = m} few w p = weighed-next few (let q : m ≤ m = omega arith in q) w p
+
+-- ---- before any axis
+
+pub zero-next : (firsts : List ℕ) (k : ℕ) → ((j : ℕ) → j < k → getD firsts j 0 ≡ 0) → k < length firsts → (j : ℕ) → j < k + 1 → getD (set firsts k 0) j 0 ≡ 0
+zero-next firsts k w h j g = elim (eq-or-lt-of-le (let q : j ≤ k = omega arith in q)) [
+  | inl q ↦ rw q (getD-set-same firsts k 0 0 h)
+  | inr q ↦ getD-set-other firsts k j 0 0 (λ z. let y : ⊥ = omega arith in y) ∙ w j q
+]
