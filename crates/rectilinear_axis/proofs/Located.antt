@@ -9,7 +9,7 @@ use Rattle.knots.specs.Knots.{countBelow}
 use Rattle.knots.specs.Place.{locOf, getLoc}
 use Rattle.knots.specs.declared.place.Loc.{Loc}
 use Rattle.knots.proofs.Places.{inner-place}
-use Rattle.rectilinear_weights.specs.Basis.{basisSpanWeights}
+use Rattle.rectilinear_basis.specs.Basis.{basisSpanWeights}
 use Rattle.rectilinear_weights.proofs.Inner.{inner-interp}
 use Rattle.rectilinear_axis.specs.Axis.{placeWeights}
 

@@ -9,8 +9,8 @@ ghost use Rattle.evaluation.specs.Block.{RowsPut};
 ghost use Rattle.rectilinear_axis.specs.Axis.{Holds, countAt, placeWeights, weightsAt};
 use evaluation::put_row;
 use knots::loc_of;
+use rectilinear_basis::inner_weights;
 use rectilinear_weights::Ghost;
-use rectilinear_weights::inner_weights;
 use rectilinear_weights::interp_weights;
 
 // The weights at x, with c knots below it. Where the six knots beside the span are knots of the grid, as on most spans, there is

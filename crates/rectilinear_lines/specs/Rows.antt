@@ -10,7 +10,7 @@ use lib.ListN.{length}
 use lib.Ieee.{Float, Format, add, sub, mul, div}
 use Rattle.multibspline.specs.Numbers.{f0}
 use Rattle.multibspline.specs.Thomas.{Row, Reduced, at, forward, solution}
-use Rattle.rectilinear_weights.specs.Basis.{basisSpanWeights}
+use Rattle.rectilinear_basis.specs.Basis.{basisSpanWeights}
 use Rattle.rectilinear_lines.specs.declared.line.Row as declared
 
 -- the code's record of a row

@@ -19,8 +19,8 @@ use multibspline::check_line;
 use multibspline::eliminate;
 use multibspline::entry;
 use multibspline::keep_row;
+use rectilinear_basis::basis_span_weights;
 use rectilinear_weights::Ghost;
-use rectilinear_weights::basis_span_weights;
 use shape::Answer;
 
 // One row of the system of a line.

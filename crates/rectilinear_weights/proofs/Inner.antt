@@ -6,7 +6,7 @@ use Prim.Native.Nat.{ℕ}
 use lib.Ieee.{Float, Format}
 use Rattle.multibspline.specs.declared.saturation.Saturation.{Saturation}
 use Rattle.multibspline.specs.declared.saturation.Saturation.the-variants.{None}
-use Rattle.rectilinear_weights.specs.Basis.{basisSpanWeights}
+use Rattle.rectilinear_basis.specs.Basis.{basisSpanWeights}
 use Rattle.rectilinear_weights.specs.Weights.{interpWeights}
 
 pub inner-interp : (f : Format) (ks low high : List Float) (linear : Bool) (span : ℕ) (x : Float) {sat : Saturation} → sat ≡ None → interpWeights f ks low high linear span x sat ≡ basisSpanWeights f ks span x

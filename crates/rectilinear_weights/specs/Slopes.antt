@@ -9,7 +9,7 @@ use lib.ListN.{getD}
 use lib.Ieee.{Float, Format, add, sub, mul, div}
 use Rattle.multibspline.specs.Numbers.{f0, f1, f3, f6}
 use Rattle.multibspline.specs.Thomas.{at}
-use Rattle.rectilinear_weights.specs.Basis.{four, basisSpanWeights}
+use Rattle.rectilinear_basis.specs.Basis.{four, basisSpanWeights}
 
 -- four places on a span: its first knot a, and a third, two thirds and the whole of the spacing h further
 unfoldable pub spanSamples : Format → List Float → ℕ → List Float

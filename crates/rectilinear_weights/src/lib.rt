@@ -1,12 +1,9 @@
-// One rectilinear axis: its knots past the ends, the four weights of a query, their slopes, and the ghost coefficients. After
-// interpn's multibspline::rectilinear.
-mod basis;
+// One rectilinear axis: the four weights of a query at each place, their slopes, and the ghost coefficients. After interpn's
+// multibspline::rectilinear.
 mod ghosts;
 mod slopes;
 mod weights;
 
-pub use basis::basis_span_weights;
-pub use basis::inner_weights;
 pub use ghosts::Ghost;
 pub use ghosts::high_ghost_coeffs;
 pub use ghosts::low_ghost_coeffs;

@@ -4,10 +4,10 @@ ghost use mathlib.Core.List.{[], _∷_};
 ghost use Prim.Native.Nat.{_+_, _<_, _≤_};
 ghost use lib.ListN.{length};
 ghost use lib.Ieee.{binary64};
-ghost use Rattle.rectilinear_weights.specs.Basis.{four};
+ghost use Rattle.rectilinear_basis.specs.Basis.{four};
 ghost use Rattle.rectilinear_weights.specs.Slopes.{spanSamples, sampled as sampledOf, columns, term as termOf, basisDerivative, derivativeBy, basisSpanWeightDerivatives, thirdDividedDifference, spanWeightThirdDerivatives};
-use crate::basis::span_knots;
-use crate::basis::weights_between;
+use rectilinear_basis::span_knots;
+use rectilinear_basis::weights_between;
 
 fn span_samples(grid: &[f64], span: usize) -> [f64; 4]
     requires { ⌜ span + 1 < length (now grid) ⌝ }

@@ -2,7 +2,7 @@ use denote.Ref.{now}
 use lib.Ieee.{binary64}
 use borrow.Author.Needs.{needs}
 use Rattle.rectilinear_weights.specs.Slopes.{sampled, column}
-use Rattle.rectilinear_weights.proofs.Knots.{between-six}
+use Rattle.rectilinear_basis.proofs.Knots.{between-six}
 use Rattle.rectilinear_weights.proofs.slopes.sampled.Statement.{statement}
 use Rattle.rectilinear_weights.proofs.slopes.sampled.Tie as tie
 

@@ -1,7 +1,7 @@
 use borrow.Author.Needs.{needs}
-use Rattle.rectilinear_weights.specs.Basis.{weightsBetween}
-use Rattle.rectilinear_weights.proofs.basis.weights_between.Statement.{statement}
-use Rattle.rectilinear_weights.proofs.basis.weights_between.Tie as tie
+use Rattle.rectilinear_basis.specs.Basis.{weightsBetween}
+use Rattle.rectilinear_basis.proofs.basis.weights_between.Statement.{statement}
+use Rattle.rectilinear_basis.proofs.basis.weights_between.Tie as tie
 
 returns : tie.Need-returns
 unfolding weightsBetween

@@ -6,9 +6,9 @@ use denote.Ref.{now}
 use lib.Dec.{le→leb}
 use lib.ListN.{length}
 use lib.Ieee.{binary64, inFloat}
-use Rattle.rectilinear_weights.proofs.Knots.{before-first}
-use Rattle.rectilinear_weights.proofs.basis.knot.Statement.{statement}
-use Rattle.rectilinear_weights.proofs.basis.knot.Tie as tie
+use Rattle.rectilinear_basis.proofs.Knots.{before-first}
+use Rattle.rectilinear_basis.proofs.basis.knot.Statement.{statement}
+use Rattle.rectilinear_basis.proofs.basis.knot.Tie as tie
 
 int-to-float-result : tie.Need-int-to-float-result
 unfolding inFloat

@@ -1,7 +1,7 @@
 use mathlib.Core.Path.{refl}
 use lib.Ieee.{ofBits}
-use Rattle.rectilinear_weights.proofs.basis.cubic.Statement.{statement}
-use Rattle.rectilinear_weights.proofs.basis.cubic.Tie as tie
+use Rattle.rectilinear_basis.proofs.basis.cubic.Statement.{statement}
+use Rattle.rectilinear_basis.proofs.basis.cubic.Tie as tie
 
 returns : tie.Need-returns
 unfolding ofBits

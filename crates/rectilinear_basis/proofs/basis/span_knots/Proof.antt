@@ -2,9 +2,9 @@ use native.Mathlib.Omega.{arith}
 use denote.Ref.{now}
 use lib.Ieee.{binary64}
 use borrow.Author.Needs.{needs}
-use Rattle.rectilinear_weights.proofs.Knots.{six-knots, six-inner}
-use Rattle.rectilinear_weights.proofs.basis.span_knots.Statement.{statement}
-use Rattle.rectilinear_weights.proofs.basis.span_knots.Tie as tie
+use Rattle.rectilinear_basis.proofs.Knots.{six-knots, six-inner}
+use Rattle.rectilinear_basis.proofs.basis.span_knots.Statement.{statement}
+use Rattle.rectilinear_basis.proofs.basis.span_knots.Tie as tie
 
 returns : tie.Need-returns
 returns c =

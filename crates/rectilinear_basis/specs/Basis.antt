@@ -9,7 +9,7 @@ use lib.IntN.{pos, subℕ}
 use lib.Ieee.{Float, Format, add, sub, mul, div}
 use Rattle.multibspline.specs.Numbers.{f0, f1}
 use Rattle.multibspline.specs.Thomas.{at}
-use Rattle.rectilinear_weights.specs.Knot.{knot}
+use Rattle.rectilinear_basis.specs.Knot.{knot}
 
 -- left(j) = x - u(i + 1 - j) and right(j) = u(i + j) - x on the span i, for j from 1 to 3; u are the knots
 abbrev pub left : Format → List Float → ℕ → Float → ℕ → Float

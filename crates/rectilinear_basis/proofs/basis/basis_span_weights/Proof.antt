@@ -2,9 +2,9 @@ use mathlib.Core.Path.{_∙_}
 use denote.Ref.{now}
 use lib.Ieee.{binary64}
 use borrow.Author.Needs.{needs}
-use Rattle.rectilinear_weights.proofs.Knots.{six-knots, by-six}
-use Rattle.rectilinear_weights.proofs.basis.basis_span_weights.Statement.{statement}
-use Rattle.rectilinear_weights.proofs.basis.basis_span_weights.Tie as tie
+use Rattle.rectilinear_basis.proofs.Knots.{six-knots, by-six}
+use Rattle.rectilinear_basis.proofs.basis.basis_span_weights.Statement.{statement}
+use Rattle.rectilinear_basis.proofs.basis.basis_span_weights.Tie as tie
 
 returns : tie.Need-returns
 returns c =
