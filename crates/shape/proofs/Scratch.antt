@@ -6,10 +6,10 @@ use Prim.Native.Nat.{ℕ, zero, suc, _+_, _≤_, _<_}
 use native.Mathlib.Numerals.{add-one}
 use native.Mathlib.Omega.{arith}
 use lib.ListN.{length, getD, set}
-use lib.Seq.{set-set, set-comm, set-getD}
+use lib.Seq.{set-set, set-comm}
 use Rattle.shape.specs.Cells.{put, from}
 use Rattle.shape.specs.Fit.{lineScratch}
-use Rattle.shape.proofs.Cells.{length-put, put-ext, from-in, from-before, from-past, from-over}
+use Rattle.shape.proofs.Cells.{length-put, put-ext, from-in, from-before, from-over}
 
 module _ {A : Type 0} (place : ℕ → ℕ) (g : ℕ → A) where
   -- a cell at none of the places may be set before or after
@@ -35,7 +35,7 @@ module _ {A : Type 0} (m : ℕ) (u g : ℕ → A) where
   unfolding lineScratch
   length-scratch n l = length-put (from m) g n (put (from 0) u n l) ∙ length-put (from 0) u n l
 
-  -- upper number k, right side k, and a cell past the right sides
+  -- upper number k, and right side k
   module _ (n : ℕ) (l : List A) (d : A) where
     pub scratch-upper : (k : ℕ) → k < n → n ≤ m → m + n ≤ length l → getD (lineScratch m u g n l) k d ≡ u k
     unfolding lineScratch
@@ -46,17 +46,6 @@ module _ {A : Type 0} (m : ℕ) (u g : ℕ → A) where
     pub scratch-right : (k : ℕ) → k < n → m + n ≤ length l → getD (lineScratch m u g n l) (m + k) d ≡ g k
     unfolding lineScratch
     scratch-right k h fits = from-in m g n (put (from 0) u n l) d k h (rw (length-put (from 0) u n l) fits)
-
-    pub scratch-past : (k : ℕ) → m + n ≤ k → getD (lineScratch m u g n l) k d ≡ getD l k d
-    unfolding lineScratch
-    scratch-past k h = from-past m g n (put (from 0) u n l) d k h ∙ from-past 0 u n l d k (omega arith)
-
-  -- row 0
-  pub scratch-one : (l : List A) (d : A) → getD l 0 d ≡ u 0 → getD l m d ≡ g 0 → l ≡ lineScratch m u g 1 l
-  unfolding lineScratch
-  scratch-one l d eu eg =
-      let e : m + 0 ≡ m = omega arith in
-      rw (e, ← eu, set-getD l 0 d, ← eg, set-getD l m d)
 
   -- one more row
   pub scratch-next : (i : ℕ) (l r r′ : List A) (x y : A) → i < m → r ≡ lineScratch m u g i l → r′ ≡ set (set r i x) (m + i) y → x ≡ u i → y ≡ g i → r′ ≡ lineScratch m u g (i + 1) l
