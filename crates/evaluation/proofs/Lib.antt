@@ -6,5 +6,7 @@ pub mod Outcomes
 pub mod Total
 pub mod Builds
 pub mod Blocks
+pub mod Striding
+pub mod Writing
 pub mod Weighed
 pub mod Singles

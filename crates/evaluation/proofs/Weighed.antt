@@ -1,5 +1,5 @@
--- Rows of a block, put one after the other and axis after axis, and first coefficients before any axis. Assumes nothing.
-use mathlib.Core.Path.{_≡_, refl, _∙_}
+-- Rows of a block, axis after axis, and first coefficients before any axis. Assumes nothing.
+use mathlib.Core.Path.{_≡_, _∙_}
 use mathlib.Core.Logic.{inl, inr}
 use mathlib.Core.List.{List}
 use Prim.Native.Nat.{ℕ, suc, _+_, _*_, _≤_, _<_}
@@ -8,23 +8,7 @@ use native.Mathlib.Omega.{arith}
 use lib.ListN.{length, getD, set}
 use lib.Seq.{getD-set-same, getD-set-other}
 use lib.Ieee.{Float}
-use Rattle.evaluation.specs.Block.{withRow, RowsPut, Weighed}
-use Rattle.evaluation.proofs.Blocks.{row-same, row-other}
-
--- ---- row after row
-
-pub rows-start : {row : ℕ → List Float} {base : ℕ} {rows : List Float} → RowsPut row base 0 rows rows
-rows-start = record { each = λ k h. absurd (let q : ⊥ = omega arith in q); before = λ j h. refl }
-
-pub rows-more : {row : ℕ → List Float} {base i : ℕ} {old new new′ : List Float} (r : List Float) → RowsPut row base i old new → length r ≡ 4 → 4 * (base + i) + 4 ≤ length new → r ≡ row i → new′ ≡ withRow new (base + i) r → RowsPut row base (i + 1) old new′
-rows-more {row} {base} {i} {old} {new} r w four fits e put =
-    record {
-      each = λ k l. rw put (elim (eq-or-lt-of-le (let q : k ≤ i = omega arith in q)) [
-        | inl q ↦ rw q (row-same new (base + i) r four fits ∙ e)
-        | inr q ↦ row-other new (base + i) r (base + k) (λ z. let y : ⊥ = omega arith in y) ∙ w .each k q
-      ]);
-      before = λ j l. rw put (row-other new (base + i) r j (λ z. let y : ⊥ = omega arith in y) ∙ w .before j l);
-    }
+use Rattle.evaluation.specs.Block.{RowsPut, Weighed}
 
 -- ---- axis after axis
 

@@ -1,16 +1,20 @@
-// The strides of the four axes of a map, zeros for those not in use.
+// The strides of the four axes of an accepted map, zeros for those not in use.
 ghost use mathlib.Core.Path.{_≡_};
+ghost use Rattle.shape.specs.Usable.{Usable};
 ghost use Rattle.evaluation.specs.Axes.{strides};
-use shape::Shape;
 
+// From the last axis to the first: the stride of an axis is that of the axis after it times its length.
 pub fn strides_of(count: usize, dims: [usize; 4]) -> [usize; 4]
+    requires { ⌜ Usable count dims ⌝ }
     ensures { λ r. ⌜ r ≡ strides count dims ⌝ }
 {
-    let shape = Shape { count, dims };
-    [
-        shape.stride(0),
-        shape.stride(1),
-        shape.stride(2),
-        shape.stride(3),
-    ]
+    let mut strides = [0usize; 4];
+    let mut next: usize = 1;
+    let mut axis = count;
+    while 0 < axis {
+        axis -= 1;
+        strides[axis] = next;
+        next *= dims[axis];
+    }
+    strides
 }

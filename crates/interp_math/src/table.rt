@@ -6,7 +6,7 @@ ghost use mathlib.Core.List.{[], _∷_};
 ghost use Prim.Native.Nat.{_+_, _*_, _<_};
 ghost use lib.ListN.{length};
 ghost use lib.Ieee.{binary64};
-ghost use Rattle.interp_math.specs.Sum.{lanes, across as acrossOf};
+ghost use Rattle.interp_math.specs.Sum.{dot4, column, lanes, across as acrossOf};
 
 // Four coefficients side by side.
 pub fn neighbours(coeffs: &[f64], at: usize) -> [f64; 4]
@@ -16,16 +16,24 @@ pub fn neighbours(coeffs: &[f64], at: usize) -> [f64; 4]
     [coeffs[at], coeffs[at + 1], coeffs[at + 2], coeffs[at + 3]]
 }
 
-// The four-term sum of each column. The four sums are worked out together, each with its own operations in the order of
-// `dot4`, so that no bit can change.
+// The four-term sum of column q, by the operations of `dot4` in their order.
+fn column_sum(w: &[f64; 4], table: &[[f64; 4]; 4], q: usize) -> f64
+    requires { ⌜ q < 4 ⌝ }
+    ensures { λ r. ⌜ r ≡ dot4 binary64 (now (w .entry)) (column (now (table .entry)) q) ⌝ }
+{
+    w[1] * table[1][q] + w[0] * table[0][q] + (w[3] * table[3][q] + w[2] * table[2][q])
+}
+
+// The four-term sum of each column. The compiler works the four out together; each has its own operations, so that no bit can
+// change.
 pub fn across(w: &[f64; 4], table: &[[f64; 4]; 4]) -> [f64; 4]
     ensures { λ r. ⌜ r ≡ acrossOf binary64 (now (w .entry)) (now (table .entry)) ⌝ }
 {
     [
-        w[1] * table[1][0] + w[0] * table[0][0] + (w[3] * table[3][0] + w[2] * table[2][0]),
-        w[1] * table[1][1] + w[0] * table[0][1] + (w[3] * table[3][1] + w[2] * table[2][1]),
-        w[1] * table[1][2] + w[0] * table[0][2] + (w[3] * table[3][2] + w[2] * table[2][2]),
-        w[1] * table[1][3] + w[0] * table[0][3] + (w[3] * table[3][3] + w[2] * table[2][3]),
+        column_sum(w, table, 0),
+        column_sum(w, table, 1),
+        column_sum(w, table, 2),
+        column_sum(w, table, 3),
     ]
 }
 

@@ -1,3 +1,4 @@
 pub mod Alike
 pub mod InParts
 pub mod Numbers
+pub mod Untouched

@@ -1,2 +1,4 @@
+pub mod Fits
+pub mod Ones
 pub mod Parts
 pub mod Tasks

@@ -22,7 +22,7 @@ use Rattle.evaluation.proofs.Weighed.{weighed-none, weighed-next}
 use Rattle.regular_blocks.specs.First as First
 use Rattle.regular_blocks.specs.Map.{RegularMap}
 use Rattle.regular_blocks.specs.Eval.{locOn, firstOn, weightsOn, slopesOn}
-use Rattle.regular_blocks.specs.Axis.{Axis, Places, weightRow, slopeRow}
+use Rattle.regular_axis.specs.Axis.{Axis, Places, weightRow, slopeRow}
 use Rattle.regular_blocks.specs.Block.{Room, FirstsTo, RowsTo}
 use Rattle.regular_blocks.proofs.Firsts.{first-below}
 

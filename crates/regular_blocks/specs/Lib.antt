@@ -2,5 +2,4 @@ pub mod Map
 pub mod First
 pub mod Eval
 pub mod Checks
-pub mod Axis
 pub mod Block

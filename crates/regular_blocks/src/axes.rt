@@ -7,9 +7,9 @@ ghost use lib.Ieee.{binary64};
 ghost use Rattle.evaluation.specs.Axes.{Ready};
 ghost use Rattle.regular_blocks.specs.Eval.{weightsOn, slopesOn};
 ghost use Rattle.regular_blocks.specs.Block.{Room, FirstsTo, RowsTo};
-use crate::axis::slope_axis;
-use crate::axis::weigh_axis;
-use crate::axis::weigh_axis_both;
+use regular_axis::slope_axis;
+use regular_axis::weigh_axis;
+use regular_axis::weigh_axis_both;
 
 // The weights of the axes, and the first of the coefficients that count, the sum of origin times stride over the axes, for
 // each entry up to the first that some axis refuses: how many come before it. An axis looks at the entries that the axes

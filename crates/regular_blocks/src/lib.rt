@@ -1,9 +1,10 @@
 // Evaluating a regular map block by block: the places, the weights and the slopes of a block of queries, axis by axis, and then
 // the sums over the coefficients that count. Each query goes through its own operations in their order.
 mod axes;
-mod axis;
+mod batch;
 mod block;
-mod places;
 
-pub use block::gradients_block;
-pub use block::values_block;
+pub use batch::gradient_at;
+pub use batch::put_gradients;
+pub use batch::put_values;
+pub use batch::value_at;

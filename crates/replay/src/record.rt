@@ -3,13 +3,13 @@ ghost use mathlib.Core.Path.{_≡_};
 ghost use Prim.Native.Nat.{_≤_, _<_};
 ghost use lib.ListN.{length, getD};
 ghost use lib.Ieee.{binary64};
-ghost use Rattle.float_text.specs.Bits.{sameBits};
-ghost use Rattle.oracle_list.specs.Words.{MatchWords};
 ghost use Rattle.regular.specs.Fit.{RegularFitted};
 ghost use Rattle.rectilinear.specs.Fit.{RectilinearFitted};
-ghost use Rattle.replay.specs.Expected.{lens, MatchFit, isUntouched};
+ghost use Rattle.replay.specs.Expected.{lens};
 ghost use Rattle.shape.specs.Refusal.{answerNumber};
 use oracle_list::Compared;
+use oracle_match::compare_fit;
+use oracle_match::is_untouched;
 use oracle_run::Outcome;
 use shape::Answer;
 use shape::Shape;
@@ -77,62 +77,6 @@ fn fit(
         return fit_regular(numbers, samples, coeffs, scratch);
     }
     fit_rectilinear(numbers, grid, samples, coeffs, scratch)
-}
-
-// The buffers after an accepted call, to the bit: coefficients from word `first` on, scratch from word `second` on.
-fn compare_both(
-    text: &[u8],
-    first: usize,
-    coeffs: &[f64],
-    second: usize,
-    scratch: &[f64],
-    spare: &mut [f64],
-) -> Compared
-    ensures { λ r. ⌜ (r ≡ Compared.Same → MatchWords sameBits (now (text .entry)) first (now (coeffs .entry))) ⌝ }
-    ensures { λ r. ⌜ (r ≡ Compared.Same → MatchWords sameBits (now (text .entry)) second (now (scratch .entry))) ⌝ }
-{
-    let coefs = oracle_list::compare(text, first, coeffs, spare);
-    match coefs {
-        Compared::Same => oracle_list::compare(text, second, scratch, spare),
-        Compared::Differs => Compared::Differs,
-        Compared::Unreadable => Compared::Unreadable,
-    }
-}
-
-// A published figure, whose scratch is not compared, or a fit: coefficients from word `first` on, and scratch after them.
-fn compare_fit(
-    kind: u64,
-    tolerance: u64,
-    text: &[u8],
-    first: usize,
-    coeffs: &[f64],
-    scratch: &[f64],
-    spare: &mut [f64],
-) -> Compared
-    requires { ⌜ (first ≤ 8192) × (length (now coeffs) ≤ 2048) ⌝ }
-    ensures { λ r. ⌜ (r ≡ Compared.Same → MatchFit kind tolerance (now (text .entry)) first (now (coeffs .entry)) (now (scratch .entry))) ⌝ }
-{
-    let second = first + coeffs.len();
-    if kind == 3 {
-        return oracle_list::compare_near(
-            float_text::float_of(tolerance),
-            text,
-            first,
-            coeffs,
-            spare,
-        );
-    }
-    compare_both(text, first, coeffs, second, scratch, spare)
-}
-
-// Whether a refused call left both buffers as they were.
-fn is_untouched(coeffs: &[f64], scratch: &[f64]) -> bool
-    ensures { λ r. ⌜ r ≡ isUntouched (now (coeffs .entry)) (now (scratch .entry)) ⌝ }
-{
-    if oracle_list::is_filled(0.5, 1.0, coeffs) {
-        return oracle_list::is_filled(-0.25, -1.0, scratch);
-    }
-    false
 }
 
 // The counts of the program: fits, refused calls, published figures.

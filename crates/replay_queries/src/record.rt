@@ -2,13 +2,14 @@
 ghost use mathlib.Core.Path.{_≡_};
 ghost use Prim.Native.Nat.{_+_, _≤_};
 ghost use lib.ListN.{length};
-ghost use Rattle.replay_queries.specs.Expected.{MatchOnes};
+ghost use Rattle.oracle_match.specs.Ones.{MatchOnes};
 use crate::batch;
 use crate::call;
 use crate::call::size;
 use crate::ones;
 use oracle_list::Compared;
 use oracle_list::both;
+use oracle_match::compare_ones;
 use oracle_run::Outcome;
 
 // The batch of values.
@@ -178,15 +179,10 @@ fn replay_ones(
     requires { ⌜ (length (now answers) ≤ 1024) × (length (now values) ≡ length (now answers)) ⌝ }
     ensures { λ r. ⌜ (r ≡ Compared.Same → MatchOnes (now (text .entry)) first (length (now (answers .entry))) (now (answers .exit)) (now (values .exit)) (now (parts .exit))) ⌝ }
 {
-    let second = first + answers.len();
-    let third = second + answers.len();
     if !ones::ask_all(numbers, grid, coeffs, xs, x, answers, values, parts) {
         return Compared::Unreadable;
     }
-    let a = oracle_list::compare(text, first, answers, spare);
-    let b = oracle_list::compare(text, second, values, spare);
-    let c = oracle_list::compare(text, third, parts, spare);
-    both(both(a, b), c)
+    compare_ones(text, first, answers, values, parts, spare)
 }
 
 fn replay_queries(

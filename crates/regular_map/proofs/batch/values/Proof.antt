@@ -1,7 +1,5 @@
-use mathlib.Core.Path.{refl}
 use native.Mathlib.Omega.{arith}
 use denote.Ref.{now}
-use lib.Dec.{lit≤}
 use lib.ListN.{length}
 use borrow.Author.Needs.{needs}
 use Rattle.shape.specs.declared.answers.Refusal.the-variants.{DimensionMismatch}
@@ -23,7 +21,7 @@ mul-if1 : tie.Need-mul-if1
 mul-if1 c =
     let w = c .before .before in
     let s = w .before .before .before .before in
-    let u = map-usable (s .args .count) (s .args .t2) (s .args .t4) _ (c .enum-told .given .1) (w .check-map .ensures) (omega (arith, s .good)) in
+    let u = map-usable (s .args .count) (s .args .dims) (s .args .steps) _ (c .enum-told .given .1) (w .check-map .ensures) (omega (arith, s .good)) in
     record { fits = batch-small (s .args .count) (length (now (s .args .out))) (u .at-most-four) (omega (arith, s .good)) }
 
 returns-2 : tie.Need-returns-2
@@ -32,33 +30,32 @@ returns-2 c =
     let t = c .before in
     let w = t .before .before in
     let a = w .before .before .before .before .args in
-    batch-refused DimensionMismatch (batch-length _ (length (now (a .xs))) (length (now (a .out))) (map-numbered (a .count) (a .t2) (a .t4) (length (now (a .coeffs)))) (t .enum-told .given .1) (w .check-map .ensures) (c .if1 .taken))
+    batch-refused DimensionMismatch (batch-length _ (length (now (a .xs))) (length (now (a .out))) (map-numbered (a .count) (a .dims) (a .steps) (length (now (a .coeffs)))) (t .enum-told .given .1) (w .check-map .ensures) (c .if1 .taken))
 
 put-values-requires : tie.Need-put-values-requires
 put-values-requires c κs =
-    let k = c .before .before .before .before .before .before .before .before .before in
-    let i = k .before in
+    let i = c .before in
     let t = i .before in
     let w = t .before .before in
-    let s = w .before .before .before .before in (
-      (
-        record { shape = map-usable (s .args .count) (s .args .t2) (s .args .t4) _ (t .enum-told .given .1) (w .check-map .ensures) (omega (arith, s .good)); four = omega (arith, s .good); strides-are = k .strides-of .ensures },
-        map-sized (s .args .count) (s .args .t2) (s .args .t4) _ (t .enum-told .given .1) (w .check-map .ensures),
-      ),
-      ((omega (arith, i .if1 .left), omega arith), (lit≤ tt, lit≤ tt, lit≤ tt, lit≤ tt)),
+    let s = w .before .before .before .before in
+    let a = s .args in (
+      map-usable (a .count) (a .dims) (a .steps) _ (t .enum-told .given .1) (w .check-map .ensures) (omega (arith, s .good)),
+      map-sized (a .count) (a .dims) (a .steps) _ (t .enum-told .given .1) (w .check-map .ensures),
+      omega (arith, i .if1 .left),
+      omega arith,
     )
 
 returns-3 : tie.Need-returns-3
 unfolding mapAnswer
 returns-3 c =
-    let p = c .before .before .before .before .before .before in
-    let i = p .before .before .before .before .before .before .before .before .before .before .before in
+    let p = c .before .before in
+    let i = p .before .before in
     let t = i .before in
     let w = t .before .before in
     let a = w .before .before .before .before .args in
-    batch-entries (batch-passed _ (length (now (a .xs))) (length (now (a .out))) (map-numbered (a .count) (a .t2) (a .t4) (length (now (a .coeffs)))) (t .enum-told .given .1) (w .check-map .ensures) (i .if1 .left)) (p .put-values .ensures)
+    batch-entries (batch-passed _ (length (now (a .xs))) (length (now (a .out))) (map-numbered (a .count) (a .dims) (a .steps) (length (now (a .coeffs)))) (t .enum-told .given .1) (w .check-map .ensures) (i .if1 .left)) (p .put-values .ensures)
 
 pub values-spec : {M : Type 1} → statement M
 values-spec =
     tie.close
-    (tie.spec (λ c κs. search needs) (λ c. search needs) returns (λ c. search needs) mul-if1 returns-2 (λ c κs. search needs) (λ c. refl) (λ c. refl) (λ c. refl) (λ c. refl) put-values-requires (λ c. c .before .before .before .before .before .before .put-values .kept .1 .1 .1 .1 .1 .1 .1 .1 .1 .1 .1 .1 .1 .0) returns-3)
+    (tie.spec (λ c κs. search needs) (λ c. search needs) returns (λ c. search needs) mul-if1 returns-2 put-values-requires (λ c. search needs) returns-3)

@@ -22,30 +22,29 @@ returns-2 c =
     let t = c .before in
     let w = t .before .before in
     let a = w .before .before .before .args in
-    one-refused _ (now (a .x)) DimensionMismatch (one-length _ (now (a .x)) (map-numbered (a .count) (a .t2) (a .t4) (length (now (a .coeffs)))) (t .enum-told .given .1) (w .check-map .ensures) (c .if1 .taken))
+    one-refused _ (now (a .x)) DimensionMismatch (one-length _ (now (a .x)) (map-numbered (a .count) (a .dims) (a .steps) (length (now (a .coeffs)))) (t .enum-told .given .1) (w .check-map .ensures) (c .if1 .taken))
 
 value-at-requires : tie.Need-value-at-requires
 value-at-requires c κs =
-    let k = c .before .before .before .before in
-    let i = k .before in
+    let i = c .before in
     let t = i .before in
     let w = t .before .before in
     let s = w .before .before .before in
-    let u = map-usable (s .args .count) (s .args .t2) (s .args .t4) _ (t .enum-told .given .1) (w .check-map .ensures) (omega (arith, s .good)) in (
-      record { shape = u; four = omega (arith, s .good); strides-are = k .strides-of .ensures },
-      map-sized (s .args .count) (s .args .t2) (s .args .t4) _ (t .enum-told .given .1) (w .check-map .ensures),
+    let a = s .args in (
+      map-usable (a .count) (a .dims) (a .steps) _ (t .enum-told .given .1) (w .check-map .ensures) (omega (arith, s .good)),
+      map-sized (a .count) (a .dims) (a .steps) _ (t .enum-told .given .1) (w .check-map .ensures),
       omega (arith, i .if1 .left),
     )
 
 returns-3 : tie.Need-returns-3
 unfolding mapAnswer
 returns-3 c =
-    let i = c .before .before .before .before .before .before in
+    let i = c .before .before in
     let t = i .before in
     let w = t .before .before in
     let a = w .before .before .before .args in
-    one-answered _ (now (a .x)) (map-numbered (a .count) (a .t2) (a .t4) (length (now (a .coeffs)))) (t .enum-told .given .1) (w .check-map .ensures) (i .if1 .left) (c .value-at .ensures)
+    one-answered _ (now (a .x)) (map-numbered (a .count) (a .dims) (a .steps) (length (now (a .coeffs)))) (t .enum-told .given .1) (w .check-map .ensures) (i .if1 .left) (c .value-at .ensures)
 
 pub one-spec : {M : Type 1} → statement M
 one-spec =
-    tie.close (tie.spec (λ c κs. search needs) (λ c. search needs) returns (λ c. search needs) returns-2 (λ c κs. search needs) value-at-requires returns-3)
+    tie.close (tie.spec (λ c κs. search needs) (λ c. search needs) returns (λ c. search needs) returns-2 value-at-requires returns-3)

@@ -24,31 +24,30 @@ returns-2 c =
     let t = i .before in
     let w = t .before .before in
     let a = w .before .before .before .args in
-    one-gradient-refused _ (now (a .x)) DimensionMismatch (one-length _ (now (a .x)) (map-numbered (a .count) (a .t2) (a .t4) (length (now (a .coeffs)))) (t .enum-told .given .1) (w .check-map .ensures) (i .if1 .taken)) (c .refused-gradient2 .ensures .0) (c .refused-gradient2 .ensures .1)
+    one-gradient-refused _ (now (a .x)) DimensionMismatch (one-length _ (now (a .x)) (map-numbered (a .count) (a .dims) (a .steps) (length (now (a .coeffs)))) (t .enum-told .given .1) (w .check-map .ensures) (i .if1 .taken)) (c .refused-gradient2 .ensures .0) (c .refused-gradient2 .ensures .1)
 
 gradient-at-requires : tie.Need-gradient-at-requires
 gradient-at-requires c κs =
-    let k = c .before .before .before .before in
-    let i = k .before in
+    let i = c .before in
     let t = i .before in
     let w = t .before .before in
     let s = w .before .before .before in
-    let u = map-usable (s .args .count) (s .args .t2) (s .args .t4) _ (t .enum-told .given .1) (w .check-map .ensures) (omega (arith, s .good)) in (
-      record { shape = u; four = omega (arith, s .good); strides-are = k .strides-of .ensures },
-      map-sized (s .args .count) (s .args .t2) (s .args .t4) _ (t .enum-told .given .1) (w .check-map .ensures),
+    let a = s .args in (
+      map-usable (a .count) (a .dims) (a .steps) _ (t .enum-told .given .1) (w .check-map .ensures) (omega (arith, s .good)),
+      map-sized (a .count) (a .dims) (a .steps) _ (t .enum-told .given .1) (w .check-map .ensures),
       omega (arith, i .if1 .left),
     )
 
 returns-3 : tie.Need-returns-3
 unfolding mapAnswer
 returns-3 c =
-    let i = c .before .before .before .before .before .before in
+    let i = c .before .before in
     let t = i .before in
     let w = t .before .before in
     let a = w .before .before .before .args in
-    one-gradient-answered _ (now (a .x)) (map-numbered (a .count) (a .t2) (a .t4) (length (now (a .coeffs)))) (t .enum-told .given .1) (w .check-map .ensures) (i .if1 .left) (c .gradient-at .ensures)
+    one-gradient-answered _ (now (a .x)) (map-numbered (a .count) (a .dims) (a .steps) (length (now (a .coeffs)))) (t .enum-told .given .1) (w .check-map .ensures) (i .if1 .left) (c .gradient-at .ensures)
 
 pub one-grad-spec : {M : Type 1} → statement M
 one-grad-spec =
     tie.close
-    (tie.spec (λ c κs. search needs) (λ c. search needs) (λ c κs. search needs) returns (λ c. search needs) (λ c κs. search needs) returns-2 (λ c κs. search needs) gradient-at-requires returns-3)
+    (tie.spec (λ c κs. search needs) (λ c. search needs) (λ c κs. search needs) returns (λ c. search needs) (λ c κs. search needs) returns-2 gradient-at-requires returns-3)
