@@ -8,8 +8,8 @@ returns c e =
     let t = c .both2 .ensures e in
     let u = c .before .both .ensures (t .0) in
     record {
-      answered = c .before .before .before .before .before .before .before .before .before .before .before .before .before .before .compare .ensures (u .0);
-      valued = c .before .before .before .before .before .before .before .before .before .compare2 .ensures (u .1);
+      answered = c .before .before .before .before .before .before .before .before .before .before .before .before .compare .ensures (u .0);
+      valued = c .before .before .before .before .before .before .before .before .compare2 .ensures (u .1);
       sloped = c .before .before .before .before .compare3 .ensures (t .1);
     }
 
@@ -24,4 +24,5 @@ compare-ones-spec =
     (λ c κs. search needs)
     (λ c κs. search needs)
     (λ c κs. search needs)
+    (λ c. search needs)
     returns)

@@ -26,4 +26,4 @@ returns c =
 
 pub gradient-at-spec : {M : Type 1} → statement M
 gradient-at-spec =
-    tie.close (tie.spec (λ c κs. search needs) (λ c. search needs) (λ c. search needs) (λ c. search needs) (λ c. search needs) (λ c. search needs) gradients-block-requires returns)
+    tie.close (tie.spec (λ c κs. c .before .before .before .pre .0 .gridded .shape) (λ c. search needs) (λ c. search needs) (λ c. search needs) (λ c. search needs) (λ c. search needs) gradients-block-requires returns)

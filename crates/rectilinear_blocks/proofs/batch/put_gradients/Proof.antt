@@ -12,4 +12,4 @@ gradient-blocks-requires c κs =
 
 pub put-gradients-spec : {M : Type 1} → statement M
 put-gradients-spec =
-    tie.close (tie.spec (λ c κs. search needs) (λ c. search needs) (λ c. search needs) (λ c. search needs) (λ c. search needs) gradient-blocks-requires (λ c. search needs) (λ c. search needs))
+    tie.close (tie.spec (λ c κs. c .before .before .before .before .pre .0 .gridded .shape) (λ c. search needs) (λ c. search needs) (λ c. search needs) (λ c. search needs) gradient-blocks-requires (λ c. search needs) (λ c. search needs))

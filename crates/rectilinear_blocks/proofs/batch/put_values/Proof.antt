@@ -11,4 +11,4 @@ value-blocks-requires c κs =
     ((record { gridded = u .gridded; four = omega (arith, s .good); strides-are = e .strides-of .ensures }, u .sized, s .pre .1, s .pre .2), (omega arith, omega arith, omega arith))
 
 pub put-values-spec : {M : Type 1} → statement M
-put-values-spec = tie.close (tie.spec (λ c κs. search needs) (λ c. search needs) (λ c. search needs) (λ c. search needs) value-blocks-requires (λ c. search needs) (λ c. search needs))
+put-values-spec = tie.close (tie.spec (λ c κs. c .before .before .before .before .pre .0 .gridded .shape) (λ c. search needs) (λ c. search needs) (λ c. search needs) value-blocks-requires (λ c. search needs) (λ c. search needs))

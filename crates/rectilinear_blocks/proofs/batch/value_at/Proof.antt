@@ -22,4 +22,4 @@ unfolding written valueStep
 returns c = ap (λ (l : List Float). getD l 0 nan) (c .before .before .before .before .values-block .ensures .leaves)
 
 pub value-at-spec : {M : Type 1} → statement M
-value-at-spec = tie.close (tie.spec (λ c κs. search needs) (λ c. search needs) (λ c. search needs) (λ c. search needs) (λ c. search needs) values-block-requires (λ c. search needs) returns)
+value-at-spec = tie.close (tie.spec (λ c κs. c .before .before .before .pre .0 .gridded .shape) (λ c. search needs) (λ c. search needs) (λ c. search needs) (λ c. search needs) values-block-requires (λ c. search needs) returns)

@@ -8,8 +8,9 @@ use Rattle.regular_blocks.proofs.batch.gradient_at.Tie as tie
 
 gradients-block-requires : tie.Need-gradients-block-requires
 gradients-block-requires c κs =
-    let s = c .before .before .before .before .before .before .before .before in (
-      (s .pre .0, s .pre .1, omega (arith, s .pre .0 .shape .at-most-four)),
+    let e = c .before .before .before .before .before .before .before .before .before .before in
+    let s = e .before .before .before in (
+      (record { shape = s .pre .0; four = omega (arith, s .good); strides-are = e .strides-of .ensures }, s .pre .1, omega (arith, s .pre .0 .at-most-four)),
       (
         record {
           block = omega arith;
@@ -18,7 +19,7 @@ gradients-block-requires c κs =
           in-firsts = omega arith;
           in-sats = omega arith;
           in-ts = omega arith;
-          in-rows = omega (arith, s .pre .0 .shape .at-most-four);
+          in-rows = omega (arith, s .pre .0 .at-most-four);
         },
         refl,
       ),
@@ -29,9 +30,9 @@ returns c = single-gradient-refused _ _ (c .before .before .before .before .befo
 
 returns-2 : tie.Need-returns-2
 unfolding ofBits
-returns-2 c = single-gradient _ _ (c .before .before .before .before .before .before .before .before .before .before .before .before .before .before .before .before .pre .0 .shape .at-most-four) refl (c .before .before .before .before .before .before .before .gradients-block .ensures) (c .if1 .left)
+returns-2 c = single-gradient _ _ (c .before .before .before .before .before .before .before .before .before .before .before .before .before .before .before .before .before .before .before .before .before .pre .0 .at-most-four) refl (c .before .before .before .before .before .before .before .gradients-block .ensures) (c .if1 .left)
 
 pub gradient-at-spec : {M : Type 1} → statement M
 gradient-at-spec =
     tie.close
-    (tie.spec (λ c. search needs) (λ c. search needs) (λ c. search needs) (λ c. search needs) (λ c. search needs) (λ c. search needs) gradients-block-requires (λ c κs. search needs) returns returns-2)
+    (tie.spec (λ c κs. c .before .before .pre .0) (λ c. search needs) (λ c. search needs) (λ c. search needs) (λ c. search needs) (λ c. search needs) (λ c. search needs) gradients-block-requires (λ c κs. search needs) returns returns-2)

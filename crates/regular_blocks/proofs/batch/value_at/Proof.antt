@@ -6,8 +6,9 @@ use Rattle.regular_blocks.proofs.batch.value_at.Tie as tie
 
 values-block-requires : tie.Need-values-block-requires
 values-block-requires c κs =
-    let s = c .before .before .before .before .before .before .before in (
-      (s .pre .0, s .pre .1, omega arith),
+    let e = c .before .before .before .before .before .before .before .before .before in
+    let s = e .before .before .before in (
+      (record { shape = s .pre .0; four = omega (arith, s .good); strides-are = e .strides-of .ensures }, s .pre .1, omega arith),
       record {
         block = omega arith;
         batch = omega arith;
@@ -15,7 +16,7 @@ values-block-requires c κs =
         in-firsts = omega arith;
         in-sats = omega arith;
         in-ts = omega arith;
-        in-rows = omega (arith, s .pre .0 .shape .at-most-four);
+        in-rows = omega (arith, s .pre .0 .at-most-four);
       },
     )
 
@@ -28,4 +29,4 @@ returns-2 c = single-value _ _ (c .before .before .before .before .before .befor
 pub value-at-spec : {M : Type 1} → statement M
 value-at-spec =
     tie.close
-    (tie.spec (λ c. search needs) (λ c. search needs) (λ c. search needs) (λ c. search needs) (λ c. search needs) values-block-requires returns (λ c. search needs) returns-2)
+    (tie.spec (λ c κs. c .before .before .pre .0) (λ c. search needs) (λ c. search needs) (λ c. search needs) (λ c. search needs) (λ c. search needs) values-block-requires returns (λ c. search needs) returns-2)

@@ -28,20 +28,19 @@ returns-2 c =
 
 gradient-at-requires : tie.Need-gradient-at-requires
 gradient-at-requires c κs =
-    let i = c .before in
-    let t = i .before in
+    let t = c .before in
     let w = t .before .before in
     let s = w .before .before .before in
     let a = s .args in (
       map-usable (a .count) (a .dims) (a .steps) _ (t .enum-told .given .1) (w .check-map .ensures) (omega (arith, s .good)),
       map-sized (a .count) (a .dims) (a .steps) _ (t .enum-told .given .1) (w .check-map .ensures),
-      omega (arith, i .if1 .left),
+      omega (arith, c .if1 .left),
     )
 
 returns-3 : tie.Need-returns-3
 unfolding mapAnswer
 returns-3 c =
-    let i = c .before .before in
+    let i = c .before in
     let t = i .before in
     let w = t .before .before in
     let a = w .before .before .before .args in
