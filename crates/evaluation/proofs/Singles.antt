@@ -16,13 +16,13 @@ use Rattle.evaluation.specs.Block.{Block}
 use Rattle.evaluation.proofs.Outcomes.{value-found, value-refused, gradient-found, gradient-refused}
 
 -- the parts, written into zeros
-placed : (count : ℕ) (part : ℕ → Float) → count ≤ 4 → put (λ k. k * 1 + 0) part count zeros ≡ parts count part
-placed zero part h = refl
-placed (suc zero) part h = refl
-placed (suc (suc zero)) part h = refl
-placed (suc (suc (suc zero))) part h = refl
-placed (suc (suc (suc (suc zero)))) part h = refl
-placed (suc (suc (suc (suc (suc count))))) part h = absurd (omega (arith, h))
+pub single-parts : (count : ℕ) (part : ℕ → Float) → count ≤ 4 → put (λ k. k * 1 + 0) part count zeros ≡ parts count part
+single-parts zero part h = refl
+single-parts (suc zero) part h = refl
+single-parts (suc (suc zero)) part h = refl
+single-parts (suc (suc (suc zero))) part h = refl
+single-parts (suc (suc (suc (suc zero)))) part h = refl
+single-parts (suc (suc (suc (suc (suc count))))) part h = absurd (omega (arith, h))
 
 module _ (s : Spline) (x : List Float) {out out′ : List Float} {r : ℕ} where
   pub single-value : Block (badAt s x 1) (valueStep s x 1) 0 1 out r out′ → 0 < length out → 1 ≤ r → Answered s (query (s .axes) x 1 0) (Value (getD out′ 0 nan))
@@ -39,7 +39,7 @@ module _ (s : Spline) (x : List Float) {out out′ : List Float} {r : ℕ} where
   unfolding badAt gradientStep written
   single-gradient few blank b all =
       let e : r ≡ 1 = omega (arith, b .most) in
-      gradient-found s _ (b .good 0 all) (rw (e, blank) at (b .leaves) ∙ placed (s .axes) (s .part (query (s .axes) x 1 0)) few)
+      gradient-found s _ (b .good 0 all) (rw (e, blank) at (b .leaves) ∙ single-parts (s .axes) (s .part (query (s .axes) x 1 0)) few)
 
   pub single-gradient-refused : {answer : ℕ} {ps : List Float} → Block (badAt s x 1) (gradientStep s x 1) 0 1 out r out′ → r < 1 → answer ≡ 6 → ps ≡ zeros → GradientAnswered s (query (s .axes) x 1 0) answer ps
   unfolding badAt

@@ -68,12 +68,3 @@ module _ (f : Format) (map : RectilinearMap) (grid coefs xs : List Float) (n sta
   block-slopes {slopes} {out} ds one e =
       slope-block (rectilinear f map grid coefs) xs n start m m out (omega arith) (λ k h. refl) (never m) one (λ k. summed f coefs ss (weightsOf slopes cap k) (map .count) (getD firsts k 0))
       (λ k h. slope-is f map grid coefs (query (map .count) xs n (start + k)) (w .each k h) es one (weights-on slopes cap k few (λ a i. ds .at a k i h)) refl) e
-
--- the parts of a single query
-pub single-parts : (count : ℕ) (part : ℕ → Float) → count ≤ 4 → put (λ j. j * 1 + 0) part count zeros ≡ parts count part
-single-parts zero part few = refl
-single-parts (suc zero) part few = refl
-single-parts (suc (suc zero)) part few = refl
-single-parts (suc (suc (suc zero))) part few = refl
-single-parts (suc (suc (suc (suc zero)))) part few = refl
-single-parts (suc (suc (suc (suc (suc count))))) part few = absurd (let q : ⊥ = omega (arith, few) in q)

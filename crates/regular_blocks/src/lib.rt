@@ -1,10 +1,7 @@
-// Evaluating a regular map block by block: the places, the weights and the slopes of a block of queries, axis by axis, and then
-// the sums over the coefficients that count. Each query goes through its own operations in their order.
+// Values and gradients of a regular map at a block of queries: for each axis the places of all the queries, then their weights;
+// then the sums. Each query goes through its own operations in their order.
 mod axes;
-mod batch;
 mod block;
 
-pub use batch::gradient_at;
-pub use batch::put_gradients;
-pub use batch::put_values;
-pub use batch::value_at;
+pub use block::gradients_block;
+pub use block::values_block;

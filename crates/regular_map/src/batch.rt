@@ -5,8 +5,8 @@ ghost use Rattle.shape.specs.Refusal.{answerNumber};
 ghost use Rattle.evaluation.specs.Batch.{ValueBatch, GradientBatch};
 ghost use Rattle.regular_blocks.specs.Checks.{regular};
 use crate::build::check_map;
-use regular_blocks::put_gradients;
-use regular_blocks::put_values;
+use regular_batches::put_gradients;
+use regular_batches::put_values;
 use shape::Answer;
 use shape::Refusal;
 

@@ -7,8 +7,8 @@ use crate::build::check_map;
 use evaluation::Gradient;
 use evaluation::Valued;
 use evaluation::refused_gradient;
-use regular_blocks::gradient_at;
-use regular_blocks::value_at;
+use regular_batches::gradient_at;
+use regular_batches::value_at;
 use shape::Answer;
 use shape::Refusal;
 

@@ -1,0 +1,17 @@
+use native.Mathlib.Omega.{arith}
+use lib.Dec.{lit≤}
+use borrow.Author.Needs.{needs}
+use Rattle.regular_batches.proofs.batch.put_values.Statement.{statement}
+use Rattle.regular_batches.proofs.batch.put_values.Tie as tie
+
+value-blocks-requires : tie.Need-value-blocks-requires
+value-blocks-requires c κs =
+    let e = c .before .before .before .before .before .before .before .before .before in
+    let s = e .before .before .before .before in (
+      (record { shape = s .pre .0; four = omega (arith, s .good); strides-are = e .strides-of .ensures }, s .pre .1),
+      ((s .pre .2, s .pre .3), (lit≤ tt, lit≤ tt, lit≤ tt, lit≤ tt)),
+    )
+
+pub put-values-spec : {M : Type 1} → statement M
+put-values-spec =
+    tie.close (tie.spec (λ c κs. c .before .before .before .pre .0) (λ c. search needs) (λ c. search needs) (λ c. search needs) (λ c. search needs) value-blocks-requires (λ c. search needs) (λ c. search needs))
