@@ -7,16 +7,18 @@ ghost use lib.ListN.{length, getD};
 ghost use lib.Ieee.{binary64};
 ghost use Rattle.shape.specs.Cells.{put};
 ghost use Rattle.interp_math.specs.Sum.{gradientPart};
+ghost use Rattle.evaluation.specs.Axes.{parts};
 ghost use Rattle.evaluation.specs.Batch.{written};
 ghost use Rattle.evaluation.specs.Block.{weightsOf, Firsts, reach};
+use evaluation::put_parts;
 use evaluation::row;
 use interp_math::dot4;
 use interp_math::parts_1;
 use interp_math::parts_2;
 use interp_math::parts_3;
 
-// The gradient of query k over two axes, at entry `at`.
-fn put_gradient_2(
+// The gradient of query k over two axes: its parts, zeros for the axes not in use.
+fn gradient_2(
     coeffs: &[f64],
     s0: usize,
     rows: &[f64],
@@ -24,12 +26,9 @@ fn put_gradient_2(
     cap: usize,
     k: usize,
     first: usize,
-    n: usize,
-    at: usize,
-    out: &mut [f64],
-)
-    requires { ⌜ (k < cap) × (4 * (cap * 2) ≤ length (now rows)) × (4 * (cap * 2) ≤ length (now slopes)) × (first + (3 * s0 + 3) < length (now coeffs)) × (at < n) × (2 * n ≤ length (now out)) ⌝ }
-    ensures { λ _. ⌜ now (out .exit) ≡ put (λ j. j * n + at) (λ j. gradientPart binary64 (now (coeffs .entry)) (s0 ∷ 1 ∷ []) (weightsOf (now (rows .entry)) cap k) (weightsOf (now (slopes .entry)) cap k) 2 first j) 2 (now (out .entry)) ⌝ }
+) -> [f64; 4]
+    requires { ⌜ (k < cap) × (4 * (cap * 2) ≤ length (now rows)) × (4 * (cap * 2) ≤ length (now slopes)) × (first + (3 * s0 + 3) < length (now coeffs)) ⌝ }
+    ensures { λ r. ⌜ r ≡ parts 2 (λ j. gradientPart binary64 (now (coeffs .entry)) (s0 ∷ 1 ∷ []) (weightsOf (now (rows .entry)) cap k) (weightsOf (now (slopes .entry)) cap k) 2 first j) ⌝ }
 {
     let w0 = row(rows, k);
     let w1 = row(rows, cap + k);
@@ -37,12 +36,16 @@ fn put_gradient_2(
     let d1 = row(slopes, cap + k);
     let mut part_0 = [0.0f64; 4];
     let sums = parts_1(coeffs, s0, &w0, &d0, first, &mut part_0);
-    out[at] = dot4(w1, part_0);
-    out[n + at] = dot4(d1, sums);
+    [
+        dot4(w1, part_0),
+        dot4(d1, sums),
+        0.0,
+        0.0,
+    ]
 }
 
 // Over three axes.
-fn put_gradient_3(
+fn gradient_3(
     coeffs: &[f64],
     s0: usize,
     s1: usize,
@@ -51,12 +54,9 @@ fn put_gradient_3(
     cap: usize,
     k: usize,
     first: usize,
-    n: usize,
-    at: usize,
-    out: &mut [f64],
-)
-    requires { ⌜ (k < cap) × (4 * (cap * 3) ≤ length (now rows)) × (4 * (cap * 3) ≤ length (now slopes)) × (first + (3 * (s0 + s1) + 3) < length (now coeffs)) × (at < n) × (3 * n ≤ length (now out)) ⌝ }
-    ensures { λ _. ⌜ now (out .exit) ≡ put (λ j. j * n + at) (λ j. gradientPart binary64 (now (coeffs .entry)) (s0 ∷ s1 ∷ 1 ∷ []) (weightsOf (now (rows .entry)) cap k) (weightsOf (now (slopes .entry)) cap k) 3 first j) 3 (now (out .entry)) ⌝ }
+) -> [f64; 4]
+    requires { ⌜ (k < cap) × (4 * (cap * 3) ≤ length (now rows)) × (4 * (cap * 3) ≤ length (now slopes)) × (first + (3 * (s0 + s1) + 3) < length (now coeffs)) ⌝ }
+    ensures { λ r. ⌜ r ≡ parts 3 (λ j. gradientPart binary64 (now (coeffs .entry)) (s0 ∷ s1 ∷ 1 ∷ []) (weightsOf (now (rows .entry)) cap k) (weightsOf (now (slopes .entry)) cap k) 3 first j) ⌝ }
 {
     let w0 = row(rows, k);
     let w1 = row(rows, cap + k);
@@ -78,13 +78,16 @@ fn put_gradient_3(
         &mut part_0,
         &mut part_1,
     );
-    out[at] = dot4(w2, part_0);
-    out[n + at] = dot4(w2, part_1);
-    out[2 * n + at] = dot4(d2, sums);
+    [
+        dot4(w2, part_0),
+        dot4(w2, part_1),
+        dot4(d2, sums),
+        0.0,
+    ]
 }
 
 // Over four axes.
-fn put_gradient_4(
+fn gradient_4(
     coeffs: &[f64],
     s0: usize,
     s1: usize,
@@ -94,12 +97,9 @@ fn put_gradient_4(
     cap: usize,
     k: usize,
     first: usize,
-    n: usize,
-    at: usize,
-    out: &mut [f64],
-)
-    requires { ⌜ (k < cap) × (4 * (cap * 4) ≤ length (now rows)) × (4 * (cap * 4) ≤ length (now slopes)) × (first + (3 * (s0 + s1 + s2) + 3) < length (now coeffs)) × (at < n) × (4 * n ≤ length (now out)) ⌝ }
-    ensures { λ _. ⌜ now (out .exit) ≡ put (λ j. j * n + at) (λ j. gradientPart binary64 (now (coeffs .entry)) (s0 ∷ s1 ∷ s2 ∷ 1 ∷ []) (weightsOf (now (rows .entry)) cap k) (weightsOf (now (slopes .entry)) cap k) 4 first j) 4 (now (out .entry)) ⌝ }
+) -> [f64; 4]
+    requires { ⌜ (k < cap) × (4 * (cap * 4) ≤ length (now rows)) × (4 * (cap * 4) ≤ length (now slopes)) × (first + (3 * (s0 + s1 + s2) + 3) < length (now coeffs)) ⌝ }
+    ensures { λ r. ⌜ r ≡ parts 4 (λ j. gradientPart binary64 (now (coeffs .entry)) (s0 ∷ s1 ∷ s2 ∷ 1 ∷ []) (weightsOf (now (rows .entry)) cap k) (weightsOf (now (slopes .entry)) cap k) 4 first j) ⌝ }
 {
     let w0 = row(rows, k);
     let w1 = row(rows, cap + k);
@@ -128,10 +128,75 @@ fn put_gradient_4(
         &mut part_1,
         &mut part_2,
     );
-    out[at] = dot4(w3, part_0);
-    out[n + at] = dot4(w3, part_1);
-    out[2 * n + at] = dot4(w3, part_2);
-    out[3 * n + at] = dot4(d3, sums);
+    [
+        dot4(w3, part_0),
+        dot4(w3, part_1),
+        dot4(w3, part_2),
+        dot4(d3, sums),
+    ]
+}
+
+// The gradient of query k over two axes, at entry `at`.
+fn put_gradient_2(
+    coeffs: &[f64],
+    s0: usize,
+    rows: &[f64],
+    slopes: &[f64],
+    cap: usize,
+    k: usize,
+    first: usize,
+    n: usize,
+    at: usize,
+    out: &mut [f64],
+)
+    requires { ⌜ (k < cap) × (4 * (cap * 2) ≤ length (now rows)) × (4 * (cap * 2) ≤ length (now slopes)) × (first + (3 * s0 + 3) < length (now coeffs)) × (at < n) × (2 * n ≤ length (now out)) ⌝ }
+    ensures { λ _. ⌜ now (out .exit) ≡ put (λ j. j * n + at) (λ j. gradientPart binary64 (now (coeffs .entry)) (s0 ∷ 1 ∷ []) (weightsOf (now (rows .entry)) cap k) (weightsOf (now (slopes .entry)) cap k) 2 first j) 2 (now (out .entry)) ⌝ }
+{
+    let parts = gradient_2(coeffs, s0, rows, slopes, cap, k, first);
+    put_parts(parts, 2, n, at, out);
+}
+
+// Over three axes.
+fn put_gradient_3(
+    coeffs: &[f64],
+    s0: usize,
+    s1: usize,
+    rows: &[f64],
+    slopes: &[f64],
+    cap: usize,
+    k: usize,
+    first: usize,
+    n: usize,
+    at: usize,
+    out: &mut [f64],
+)
+    requires { ⌜ (k < cap) × (4 * (cap * 3) ≤ length (now rows)) × (4 * (cap * 3) ≤ length (now slopes)) × (first + (3 * (s0 + s1) + 3) < length (now coeffs)) × (at < n) × (3 * n ≤ length (now out)) ⌝ }
+    ensures { λ _. ⌜ now (out .exit) ≡ put (λ j. j * n + at) (λ j. gradientPart binary64 (now (coeffs .entry)) (s0 ∷ s1 ∷ 1 ∷ []) (weightsOf (now (rows .entry)) cap k) (weightsOf (now (slopes .entry)) cap k) 3 first j) 3 (now (out .entry)) ⌝ }
+{
+    let parts = gradient_3(coeffs, s0, s1, rows, slopes, cap, k, first);
+    put_parts(parts, 3, n, at, out);
+}
+
+// Over four axes.
+fn put_gradient_4(
+    coeffs: &[f64],
+    s0: usize,
+    s1: usize,
+    s2: usize,
+    rows: &[f64],
+    slopes: &[f64],
+    cap: usize,
+    k: usize,
+    first: usize,
+    n: usize,
+    at: usize,
+    out: &mut [f64],
+)
+    requires { ⌜ (k < cap) × (4 * (cap * 4) ≤ length (now rows)) × (4 * (cap * 4) ≤ length (now slopes)) × (first + (3 * (s0 + s1 + s2) + 3) < length (now coeffs)) × (at < n) × (4 * n ≤ length (now out)) ⌝ }
+    ensures { λ _. ⌜ now (out .exit) ≡ put (λ j. j * n + at) (λ j. gradientPart binary64 (now (coeffs .entry)) (s0 ∷ s1 ∷ s2 ∷ 1 ∷ []) (weightsOf (now (rows .entry)) cap k) (weightsOf (now (slopes .entry)) cap k) 4 first j) 4 (now (out .entry)) ⌝ }
+{
+    let parts = gradient_4(coeffs, s0, s1, s2, rows, slopes, cap, k, first);
+    put_parts(parts, 4, n, at, out);
 }
 
 // The gradients of m queries over two axes, from entry `from` on.

@@ -7,6 +7,6 @@ pub mod Total
 pub mod Builds
 pub mod Blocks
 pub mod Striding
-pub mod Writing
+pub mod Rows
 pub mod Weighed
 pub mod Singles

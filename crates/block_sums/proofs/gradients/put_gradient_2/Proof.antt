@@ -1,47 +1,21 @@
-use mathlib.Core.Path.{_≡_, refl, _∙_}
-use mathlib.Core.List.{[], _∷_}
-use Prim.Native.Nat.{ℕ}
+use mathlib.Core.Path.{_∙_}
 use native.Mathlib.Omega.{arith}
-use denote.Ref.{now}
-use lib.ListN.{length-set}
-use lib.Ieee.{Float, binary64}
 use borrow.Author.Needs.{needs}
-use Rattle.interp_math.specs.Sum.{gradientPart}
-use Rattle.interp_math.proofs.Tables.{lanes-end}
-use Rattle.evaluation.specs.Block.{weightsOf}
-use Rattle.evaluation.proofs.Blocks.{part-next}
 use Rattle.block_sums.proofs.gradients.put_gradient_2.Statement.{statement}
 use Rattle.block_sums.proofs.gradients.put_gradient_2.Tie as tie
 
+gradient-2-requires : tie.Need-gradient-2-requires
+gradient-2-requires c κs =
+    let s = c .before .before .before .before in
+    (s .pre .0, s .pre .1, s .pre .2, s .pre .3)
+
+put-parts-requires : tie.Need-put-parts-requires
+put-parts-requires c κs =
+    let s = c .before .before .before .before .before .before in
+    (omega arith, s .pre .4, s .pre .5)
+
 returns : tie.Need-returns
-unfolding gradientPart weightsOf
-returns c =
-    let s = c .before .before .before .before .before .before .before .before .before .before .before .before .before .before in
-    let p = c .before .before in
-    let r = p .before .before .before .before in
-    let g : ℕ → Float = λ i. gradientPart binary64 (now (s .args .coeffs)) (s .args .s0 ∷ 1 ∷ []) (weightsOf (now (s .args .rows)) (s .args .cap) (s .args .k)) (weightsOf (now (s .args .slopes)) (s .args .cap) (s .args .k)) 2 (s .args .first) i in
-    let l = now (s .args .out) in
-    let g0 : c .before .dot4 .result ≡ g 0 = c .before .dot4 .ensures ∙ rw (p .parts-1 .ensures .1, r .before .row3 .ensures, r .before .before .row2 .ensures) (lanes-end binary64 _ (_ ∷ []) [] (_ ∷ []) _ _ 1 _ refl refl) in
-    let g1 : c .dot42 .result ≡ g 1 = c .dot42 .ensures ∙ rw (p .parts-1 .ensures .0, r .before .before .before .row .ensures, r .row4 .ensures) (lanes-end binary64 _ (_ ∷ []) [] (_ ∷ []) _ _ 1 _ refl refl) in
-    part-next g l (s .args .n) (s .args .at) 1 (omega arith) g1 (part-next g l (s .args .n) (s .args .at) 0 (omega arith) g0 refl)
+returns c = c .before .before .put-parts .ensures ∙ rw (c .before .before .before .before .gradient-2 .ensures)
 
 pub put-gradient-2-spec : {M : Type 1} → statement M
-put-gradient-2-spec =
-    tie.close
-    (tie.spec
-    (λ c κs. omega (arith, c .before .before .before .before .pre .0, c .before .before .before .before .pre .1))
-    (λ c. omega (arith, c .before .before .before .before .before .pre .0, c .before .before .before .before .before .pre .1, c .before .before .before .before .before .good))
-    (λ c κs. omega (arith, c .before .before .before .before .before .pre .0, c .before .before .before .before .before .pre .1))
-    (λ c κs. omega (arith, c .before .before .before .before .before .before .pre .0, c .before .before .before .before .before .before .pre .2))
-    (λ c. omega (arith, c .before .before .before .before .before .before .before .pre .0, c .before .before .before .before .before .before .before .pre .2, c .before .before .before .before .before .before .before .good))
-    (λ c κs. omega (arith, c .before .before .before .before .before .before .before .pre .0, c .before .before .before .before .before .before .before .pre .2))
-    (λ c κs. omega (arith, c .before .before .before .before .before .before .before .before .before .before .before .pre .3))
-    (λ c κs. search needs)
-    (λ c. omega (arith, c .before .before .before .before .before .before .before .before .before .before .before .before .before .pre .4, c .before .before .before .before .before .before .before .before .before .before .before .before .before .pre .5, c .before .before .before .before .before .before .before .before .before .before .before .before .before .good))
-    (λ c. omega (arith, c .before .before .before .before .before .before .before .before .before .before .before .before .before .pre .4, c .before .before .before .before .before .before .before .before .before .before .before .before .before .pre .5))
-    (λ c κs. search needs)
-    (λ c. omega (arith, c .before .before .before .before .before .before .before .before .before .before .before .before .before .before .pre .4, c .before .before .before .before .before .before .before .before .before .before .before .before .before .before .pre .5, c .before .before .before .before .before .before .before .before .before .before .before .before .before .before .good))
-    (λ c. omega (arith, c .before .before .before .before .before .before .before .before .before .before .before .before .before .before .pre .4, c .before .before .before .before .before .before .before .before .before .before .before .before .before .before .pre .5, c .before .before .before .before .before .before .before .before .before .before .before .before .before .before .good))
-    (λ c. rw (length-set _ _ _) (omega (arith, c .before .before .before .before .before .before .before .before .before .before .before .before .before .before .pre .4, c .before .before .before .before .before .before .before .before .before .before .before .before .before .before .pre .5)))
-    (λ c. rw (length-set _ _ _, length-set _ _ _))
-    returns)
+put-gradient-2-spec = tie.close (tie.spec gradient-2-requires put-parts-requires (λ c. search needs) returns)

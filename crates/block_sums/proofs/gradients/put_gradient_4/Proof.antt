@@ -1,71 +1,21 @@
-use mathlib.Core.Path.{_≡_, refl, _∙_}
-use mathlib.Core.List.{[], _∷_}
-use Prim.Native.Nat.{ℕ}
+use mathlib.Core.Path.{_∙_}
 use native.Mathlib.Omega.{arith}
-use denote.Ref.{now}
-use lib.ListN.{length-set}
-use lib.Ieee.{Float, binary64}
 use borrow.Author.Needs.{needs}
-use Rattle.interp_math.specs.Sum.{gradientPart}
-use Rattle.interp_math.proofs.Tables.{lanes-end}
-use Rattle.evaluation.specs.Block.{weightsOf}
-use Rattle.evaluation.proofs.Blocks.{part-next}
 use Rattle.block_sums.proofs.gradients.put_gradient_4.Statement.{statement}
 use Rattle.block_sums.proofs.gradients.put_gradient_4.Tie as tie
 
+gradient-4-requires : tie.Need-gradient-4-requires
+gradient-4-requires c κs =
+    let s = c .before .before .before .before in
+    (s .pre .0, s .pre .1, s .pre .2, s .pre .3)
+
+put-parts-requires : tie.Need-put-parts-requires
+put-parts-requires c κs =
+    let s = c .before .before .before .before .before .before in
+    (omega arith, s .pre .4, s .pre .5)
+
 returns : tie.Need-returns
-unfolding gradientPart weightsOf
-returns c =
-    let s = c .before .before .before .before .before .before .before .before .before .before .before .before .before .before .before .before .before .before .before .before .before .before .before .before .before .before in
-    let p = c .before .before .before .before in
-    let r = p .before .before .before .before .before .before .before .before .before .before in
-    let g : ℕ → Float = λ i. gradientPart binary64 (now (s .args .coeffs)) (s .args .s0 ∷ s .args .s1 ∷ s .args .s2 ∷ 1 ∷ []) (weightsOf (now (s .args .rows)) (s .args .cap) (s .args .k)) (weightsOf (now (s .args .slopes)) (s .args .cap) (s .args .k)) 4 (s .args .first) i in
-    let l = now (s .args .out) in
-    let g0 : c .before .before .before .dot4 .result ≡ g 0 = c .before .before .before .dot4 .ensures ∙ rw (p .parts-3 .ensures .1 .0, r .before .before .before .before .before .before .row2 .ensures, r .before .before .before .before .before .row3 .ensures, r .before .before .before .row5 .ensures, r .before .before .before .before .row4 .ensures) (lanes-end binary64 _ (_ ∷ _ ∷ _ ∷ []) [] (_ ∷ _ ∷ _ ∷ []) _ _ 3 _ refl refl) in
-    let g1 : c .before .before .dot42 .result ≡ g 1 = c .before .before .dot42 .ensures ∙ rw (p .parts-3 .ensures .1 .1 .0, r .before .before .before .before .before .before .before .row .ensures, r .before .before .before .before .before .row3 .ensures, r .before .before .row6 .ensures, r .before .before .before .before .row4 .ensures) (lanes-end binary64 _ (_ ∷ _ ∷ _ ∷ []) [] (_ ∷ _ ∷ _ ∷ []) _ _ 3 _ refl refl) in
-    let g2 : c .before .dot43 .result ≡ g 2 = c .before .dot43 .ensures ∙ rw (p .parts-3 .ensures .1 .1 .1, r .before .before .before .before .before .before .before .row .ensures, r .before .before .before .before .before .before .row2 .ensures, r .before .row7 .ensures, r .before .before .before .before .row4 .ensures) (lanes-end binary64 _ (_ ∷ _ ∷ _ ∷ []) [] (_ ∷ _ ∷ _ ∷ []) _ _ 3 _ refl refl) in
-    let g3 : c .dot44 .result ≡ g 3 = c .dot44 .ensures ∙ rw (p .parts-3 .ensures .0, r .before .before .before .before .before .before .before .row .ensures, r .before .before .before .before .before .before .row2 .ensures, r .before .before .before .before .before .row3 .ensures, r .row8 .ensures) (lanes-end binary64 _ (_ ∷ _ ∷ _ ∷ []) [] (_ ∷ _ ∷ _ ∷ []) _ _ 3 _ refl refl) in
-    part-next g l (s .args .n) (s .args .at) 3 (omega arith) g3 (part-next g l (s .args .n) (s .args .at) 2 (omega arith) g2 (part-next g l (s .args .n) (s .args .at) 1 (omega arith) g1 (part-next g l (s .args .n) (s .args .at) 0 (omega arith) g0 refl)))
+returns c = c .before .before .put-parts .ensures ∙ rw (c .before .before .before .before .gradient-4 .ensures)
 
 pub put-gradient-4-spec : {M : Type 1} → statement M
-put-gradient-4-spec =
-    tie.close
-    (tie.spec
-    (λ c κs. omega (arith, c .before .before .before .before .pre .0, c .before .before .before .before .pre .1))
-    (λ c. omega (arith, c .before .before .before .before .before .pre .0, c .before .before .before .before .before .pre .1, c .before .before .before .before .before .good))
-    (λ c κs. omega (arith, c .before .before .before .before .before .pre .0, c .before .before .before .before .before .pre .1))
-    (λ c. omega (arith, c .before .before .before .before .before .before .pre .0, c .before .before .before .before .before .before .pre .1, c .before .before .before .before .before .before .good))
-    (λ c. omega (arith, c .before .before .before .before .before .before .pre .0, c .before .before .before .before .before .before .pre .1, c .before .before .before .before .before .before .good))
-    (λ c κs. omega (arith, c .before .before .before .before .before .before .pre .0, c .before .before .before .before .before .before .pre .1))
-    (λ c. omega (arith, c .before .before .before .before .before .before .before .pre .0, c .before .before .before .before .before .before .before .pre .1, c .before .before .before .before .before .before .before .good))
-    (λ c. omega (arith, c .before .before .before .before .before .before .before .pre .0, c .before .before .before .before .before .before .before .pre .1, c .before .before .before .before .before .before .before .good))
-    (λ c κs. omega (arith, c .before .before .before .before .before .before .before .pre .0, c .before .before .before .before .before .before .before .pre .1))
-    (λ c κs. omega (arith, c .before .before .before .before .before .before .before .before .pre .0, c .before .before .before .before .before .before .before .before .pre .2))
-    (λ c. omega (arith, c .before .before .before .before .before .before .before .before .before .pre .0, c .before .before .before .before .before .before .before .before .before .pre .2, c .before .before .before .before .before .before .before .before .before .good))
-    (λ c κs. omega (arith, c .before .before .before .before .before .before .before .before .before .pre .0, c .before .before .before .before .before .before .before .before .before .pre .2))
-    (λ c. omega (arith, c .before .before .before .before .before .before .before .before .before .before .pre .0, c .before .before .before .before .before .before .before .before .before .before .pre .2, c .before .before .before .before .before .before .before .before .before .before .good))
-    (λ c. omega (arith, c .before .before .before .before .before .before .before .before .before .before .pre .0, c .before .before .before .before .before .before .before .before .before .before .pre .2, c .before .before .before .before .before .before .before .before .before .before .good))
-    (λ c κs. omega (arith, c .before .before .before .before .before .before .before .before .before .before .pre .0, c .before .before .before .before .before .before .before .before .before .before .pre .2))
-    (λ c. omega (arith, c .before .before .before .before .before .before .before .before .before .before .before .pre .0, c .before .before .before .before .before .before .before .before .before .before .before .pre .2, c .before .before .before .before .before .before .before .before .before .before .before .good))
-    (λ c. omega (arith, c .before .before .before .before .before .before .before .before .before .before .before .pre .0, c .before .before .before .before .before .before .before .before .before .before .before .pre .2, c .before .before .before .before .before .before .before .before .before .before .before .good))
-    (λ c κs. omega (arith, c .before .before .before .before .before .before .before .before .before .before .before .pre .0, c .before .before .before .before .before .before .before .before .before .before .before .pre .2))
-    (λ c κs. omega (arith, c .before .before .before .before .before .before .before .before .before .before .before .before .before .before .before .before .before .before .before .before .before .pre .3))
-    (λ c κs. search needs)
-    (λ c. omega (arith, c .before .before .before .before .before .before .before .before .before .before .before .before .before .before .before .before .before .before .before .before .before .before .before .pre .4, c .before .before .before .before .before .before .before .before .before .before .before .before .before .before .before .before .before .before .before .before .before .before .before .pre .5, c .before .before .before .before .before .before .before .before .before .before .before .before .before .before .before .before .before .before .before .before .before .before .before .good))
-    (λ c. omega (arith, c .before .before .before .before .before .before .before .before .before .before .before .before .before .before .before .before .before .before .before .before .before .before .before .pre .4, c .before .before .before .before .before .before .before .before .before .before .before .before .before .before .before .before .before .before .before .before .before .before .before .pre .5))
-    (λ c κs. search needs)
-    (λ c. omega (arith, c .before .before .before .before .before .before .before .before .before .before .before .before .before .before .before .before .before .before .before .before .before .before .before .before .pre .4, c .before .before .before .before .before .before .before .before .before .before .before .before .before .before .before .before .before .before .before .before .before .before .before .before .pre .5, c .before .before .before .before .before .before .before .before .before .before .before .before .before .before .before .before .before .before .before .before .before .before .before .before .good))
-    (λ c. omega (arith, c .before .before .before .before .before .before .before .before .before .before .before .before .before .before .before .before .before .before .before .before .before .before .before .before .pre .4, c .before .before .before .before .before .before .before .before .before .before .before .before .before .before .before .before .before .before .before .before .before .before .before .before .pre .5, c .before .before .before .before .before .before .before .before .before .before .before .before .before .before .before .before .before .before .before .before .before .before .before .before .good))
-    (λ c. rw (length-set _ _ _) (omega (arith, c .before .before .before .before .before .before .before .before .before .before .before .before .before .before .before .before .before .before .before .before .before .before .before .before .pre .4, c .before .before .before .before .before .before .before .before .before .before .before .before .before .before .before .before .before .before .before .before .before .before .before .before .pre .5)))
-    (λ c κs. search needs)
-    (λ c. omega (arith, c .before .before .before .before .before .before .before .before .before .before .before .before .before .before .before .before .before .before .before .before .before .before .before .before .before .pre .4, c .before .before .before .before .before .before .before .before .before .before .before .before .before .before .before .before .before .before .before .before .before .before .before .before .before .pre .5, c .before .before .before .before .before .before .before .before .before .before .before .before .before .before .before .before .before .before .before .before .before .before .before .before .before .good))
-    (λ c. omega (arith, c .before .before .before .before .before .before .before .before .before .before .before .before .before .before .before .before .before .before .before .before .before .before .before .before .before .pre .4, c .before .before .before .before .before .before .before .before .before .before .before .before .before .before .before .before .before .before .before .before .before .before .before .before .before .pre .5, c .before .before .before .before .before .before .before .before .before .before .before .before .before .before .before .before .before .before .before .before .before .before .before .before .before .good))
-    (λ c. omega (arith, c .before .before .before .before .before .before .before .before .before .before .before .before .before .before .before .before .before .before .before .before .before .before .before .before .before .pre .4, c .before .before .before .before .before .before .before .before .before .before .before .before .before .before .before .before .before .before .before .before .before .before .before .before .before .pre .5, c .before .before .before .before .before .before .before .before .before .before .before .before .before .before .before .before .before .before .before .before .before .before .before .before .before .good))
-    (λ c. rw (length-set _ _ _, length-set _ _ _) (omega (arith, c .before .before .before .before .before .before .before .before .before .before .before .before .before .before .before .before .before .before .before .before .before .before .before .before .before .pre .4, c .before .before .before .before .before .before .before .before .before .before .before .before .before .before .before .before .before .before .before .before .before .before .before .before .before .pre .5)))
-    (λ c κs. search needs)
-    (λ c. omega (arith, c .before .before .before .before .before .before .before .before .before .before .before .before .before .before .before .before .before .before .before .before .before .before .before .before .before .before .pre .4, c .before .before .before .before .before .before .before .before .before .before .before .before .before .before .before .before .before .before .before .before .before .before .before .before .before .before .pre .5, c .before .before .before .before .before .before .before .before .before .before .before .before .before .before .before .before .before .before .before .before .before .before .before .before .before .before .good))
-    (λ c. omega (arith, c .before .before .before .before .before .before .before .before .before .before .before .before .before .before .before .before .before .before .before .before .before .before .before .before .before .before .pre .4, c .before .before .before .before .before .before .before .before .before .before .before .before .before .before .before .before .before .before .before .before .before .before .before .before .before .before .pre .5, c .before .before .before .before .before .before .before .before .before .before .before .before .before .before .before .before .before .before .before .before .before .before .before .before .before .before .good))
-    (λ c. omega (arith, c .before .before .before .before .before .before .before .before .before .before .before .before .before .before .before .before .before .before .before .before .before .before .before .before .before .before .pre .4, c .before .before .before .before .before .before .before .before .before .before .before .before .before .before .before .before .before .before .before .before .before .before .before .before .before .before .pre .5, c .before .before .before .before .before .before .before .before .before .before .before .before .before .before .before .before .before .before .before .before .before .before .before .before .before .before .good))
-    (λ c. rw (length-set _ _ _, length-set _ _ _, length-set _ _ _) (omega (arith, c .before .before .before .before .before .before .before .before .before .before .before .before .before .before .before .before .before .before .before .before .before .before .before .before .before .before .pre .4, c .before .before .before .before .before .before .before .before .before .before .before .before .before .before .before .before .before .before .before .before .before .before .before .before .before .before .pre .5)))
-    (λ c. rw (length-set _ _ _, length-set _ _ _, length-set _ _ _, length-set _ _ _))
-    returns)
+put-gradient-4-spec = tie.close (tie.spec gradient-4-requires put-parts-requires (λ c. search needs) returns)

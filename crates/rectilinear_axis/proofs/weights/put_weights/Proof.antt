@@ -2,13 +2,13 @@ use Prim.Native.Nat.{_-_}
 use native.Mathlib.Omega.{arith}
 use lib.Ieee.{binary64}
 use Rattle.rectilinear_weights.specs.Ghosts.{ghostNumbers}
-use Rattle.evaluation.proofs.Writing.{Writing, writing-start, writing-room, writing-next, writing-done}
+use Rattle.evaluation.proofs.Rows.{RowsSoFar, rows-begin, rows-room, rows-next, rows-done}
 use Rattle.rectilinear_axis.specs.Axis.{countAt, weightsAt}
 use Rattle.rectilinear_axis.proofs.weights.put_weights.Statement.{statement}
 use Rattle.rectilinear_axis.proofs.weights.put_weights.Tie as tie
 
 abbrev Inv : tie.InvT-loop
-Inv knots low high linear xs at m counts base rows₀ k₀ rows k = Writing (weightsAt binary64 knots (ghostNumbers low) (ghostNumbers high) linear xs at) base m rows₀ rows k
+Inv knots low high linear xs at m counts base rows₀ k₀ rows k = RowsSoFar (weightsAt binary64 knots (ghostNumbers low) (ghostNumbers high) linear xs at) base m rows₀ rows k
 
 abbrev μ : tie.MeasureT-loop
 μ knots low high linear xs at m counts base rows₀ k₀ rows k = m - k
@@ -23,14 +23,14 @@ weights-at-requires c κs =
 put-row-requires : tie.Need-put-row-requires Inv μ
 put-row-requires c κs =
     let t = c .before .before .before .before in
-    writing-room _ _ _ _ (t .before .loop .inv) (t .loop-test .taken) (t .before .before .before .before .before .before .pre .0 .3)
+    rows-room _ _ _ _ (t .before .loop .inv) (t .loop-test .taken) (t .before .before .before .before .before .before .pre .0 .3)
 
 loop-again : tie.Need-loop-again Inv μ
 loop-again c =
     let p = c .before .before in
     let t = p .before .before .before .before .before in
     let w = p .before .before .weights-at in
-    writing-next _ _ _ _ (t .before .loop .inv) (t .loop-test .taken) (t .before .before .before .before .before .before .pre .0 .3) (omega (arith, w .ok)) (w .ensures) (p .put-row .ensures)
+    rows-next _ _ _ _ (t .before .loop .inv) (t .loop-test .taken) (t .before .before .before .before .before .before .pre .0 .3) (omega (arith, w .ok)) (w .ensures) (p .put-row .ensures)
 
 pub put-weights-spec : {M : Type 1} → statement M
 put-weights-spec =
@@ -38,7 +38,7 @@ put-weights-spec =
     (tie.spec
     Inv
     μ
-    (λ c. writing-start _ _ _ _)
+    (λ c. rows-begin _ _ _ _)
     (λ c. omega arith)
     (λ c. omega arith)
     (λ c. omega arith)
@@ -51,4 +51,4 @@ put-weights-spec =
     (λ c. omega arith)
     loop-again
     (λ c. c .before .loop .inv .length-rows)
-    (λ c. writing-done _ _ _ _ (c .before .loop .inv) (c .loop-test .left)))
+    (λ c. rows-done _ _ _ _ (c .before .loop .inv) (c .loop-test .left)))

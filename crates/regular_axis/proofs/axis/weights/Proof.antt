@@ -4,12 +4,12 @@ use native.Mathlib.Omega.{arith}
 use lib.Ieee.{binary64}
 use Rattle.regular_weights.proofs.Lengths.{length-weights}
 use Rattle.regular_axis.specs.Axis.{weightRow}
-use Rattle.evaluation.proofs.Writing.{Writing, writing-start, writing-next, writing-done}
+use Rattle.evaluation.proofs.Rows.{RowsSoFar, rows-begin, rows-next, rows-done}
 use Rattle.regular_axis.proofs.axis.weights.Statement.{statement}
 use Rattle.regular_axis.proofs.axis.weights.Tie as tie
 
 abbrev Inv : tie.InvT-loop
-Inv linear m base sats ts rows₀ k₀ rows k = Writing (weightRow binary64 linear sats ts) base m rows₀ rows k
+Inv linear m base sats ts rows₀ k₀ rows k = RowsSoFar (weightRow binary64 linear sats ts) base m rows₀ rows k
 
 abbrev μ : tie.MeasureT-loop
 μ linear m base sats ts rows₀ k₀ rows k = m - k
@@ -18,7 +18,7 @@ loop-again : tie.Need-loop-again Inv μ
 unfolding weightRow
 loop-again c =
     let t = c .before .before .before .before .before .before in
-    writing-next _ _ _ _ (t .before .loop .inv) (t .loop-test .taken) (t .before .before .before .before .before .pre .2) (length-weights binary64 _ _ _) refl (c .before .before .put-weights .ensures)
+    rows-next _ _ _ _ (t .before .loop .inv) (t .loop-test .taken) (t .before .before .before .before .before .pre .2) (length-weights binary64 _ _ _) refl (c .before .before .put-weights .ensures)
 
 pub weights-spec : {M : Type 1} → statement M
 weights-spec =
@@ -26,7 +26,7 @@ weights-spec =
     (tie.spec
     Inv
     μ
-    (λ c. writing-start _ _ _ _)
+    (λ c. rows-begin _ _ _ _)
     (λ c. omega arith)
     (λ c. omega arith)
     (λ c. omega arith)
@@ -37,4 +37,4 @@ weights-spec =
     (λ c. omega arith)
     loop-again
     (λ c. c .before .loop .inv .length-rows)
-    (λ c. writing-done _ _ _ _ (c .before .loop .inv) (c .loop-test .left)))
+    (λ c. rows-done _ _ _ _ (c .before .loop .inv) (c .loop-test .left)))

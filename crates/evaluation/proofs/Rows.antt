@@ -28,25 +28,25 @@ rows-more {row} {base} {i} {old} {new} r w four fits e put =
 
 module _ (row : ℕ → List Float) (base m : ℕ) (rows₀ : List Float) where
   -- k rows are written
-  pub record Writing (rows : List Float) (k : ℕ) : Type 0 where
+  pub record RowsSoFar (rows : List Float) (k : ℕ) : Type 0 where
     pub most : k ≤ m
     pub length-rows : length rows ≡ length rows₀
     pub so-far : RowsPut row base k rows₀ rows
 
-  pub writing-start : Writing rows₀ 0
-  writing-start = record { most = omega arith; length-rows = refl; so-far = rows-start }
+  pub rows-begin : RowsSoFar rows₀ 0
+  rows-begin = record { most = omega arith; length-rows = refl; so-far = rows-start }
 
   -- there is room for the next
-  pub writing-room : {rows : List Float} {k : ℕ} → Writing rows k → k < m → 4 * (base + m) ≤ length rows₀ → 4 * (base + k) + 4 ≤ length rows
-  writing-room w h fits = omega (arith, w .length-rows)
+  pub rows-room : {rows : List Float} {k : ℕ} → RowsSoFar rows k → k < m → 4 * (base + m) ≤ length rows₀ → 4 * (base + k) + 4 ≤ length rows
+  rows-room w h fits = omega (arith, w .length-rows)
 
-  pub writing-next : {rows rows′ : List Float} {k : ℕ} {r : List Float} → Writing rows k → k < m → 4 * (base + m) ≤ length rows₀ → length r ≡ 4 → r ≡ row k → rows′ ≡ withRow rows (base + k) r → Writing rows′ (k + 1)
-  writing-next {rows} {rows′} {k} {r} w h fits four e done =
+  pub rows-next : {rows rows′ : List Float} {k : ℕ} {r : List Float} → RowsSoFar rows k → k < m → 4 * (base + m) ≤ length rows₀ → length r ≡ 4 → r ≡ row k → rows′ ≡ withRow rows (base + k) r → RowsSoFar rows′ (k + 1)
+  rows-next {rows} {rows′} {k} {r} w h fits four e done =
       record {
         most = omega arith;
         length-rows = rw done (row-length rows (base + k) r ∙ w .length-rows);
-        so-far = rows-more r (w .so-far) four (writing-room w h fits) e done;
+        so-far = rows-more r (w .so-far) four (rows-room w h fits) e done;
       }
 
-  pub writing-done : {rows : List Float} {k : ℕ} → Writing rows k → m ≤ k → RowsPut row base m rows₀ rows
-  writing-done {rows} {k} w h = let e : k ≡ m = omega (arith, w .most) in rw e at (w .so-far)
+  pub rows-done : {rows : List Float} {k : ℕ} → RowsSoFar rows k → m ≤ k → RowsPut row base m rows₀ rows
+  rows-done {rows} {k} w h = let e : k ≡ m = omega (arith, w .most) in rw e at (w .so-far)
