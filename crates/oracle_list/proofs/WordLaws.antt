@@ -137,3 +137,7 @@ not-unreadable e = absurd (let z : _≡_ {A = ℕ} 0 1 = cc in let y : ⊥ = ome
 
 pub not-differs : {X : Type 0} → Compared.Differs ≡ Compared.Same → X
 not-differs e = absurd (let z : _≡_ {A = ℕ} 0 1 = cc in let y : ⊥ = omega arith in y)
+
+-- only `true` does, of a test
+pub not-matched : {X : Type 0} → false ≡ true → X
+not-matched e = absurd (let z : _≡_ {A = ℕ} 0 1 = cc in let y : ⊥ = omega arith in y)

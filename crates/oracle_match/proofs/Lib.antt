@@ -1,4 +1,3 @@
 pub mod Alike
 pub mod InParts
-pub mod Numbers
 pub mod Untouched

@@ -1,4 +1,3 @@
 pub mod Fits
 pub mod Ones
 pub mod Parts
-pub mod Tasks

@@ -6,7 +6,7 @@ use Prim.Native.Nat.{ℕ, _-_}
 use lib.ListN.{length}
 use lib.Ieee.{Float, Format, neg, div}
 use Rattle.multibspline.specs.Thomas.{at}
-use Rattle.rectilinear_weights.specs.Slopes.{spanWeightThirdDerivatives}
+use Rattle.rectilinear_slopes.specs.Slopes.{spanWeightThirdDerivatives}
 use Rattle.rectilinear_weights.specs.declared.ghosts.Ghost.{Ghost}
 
 -- with q the third derivatives of the four weights in the first span: c(-1) = -q1/q0 c(0) - q2/q0 c(1) - q3/q0 c(2)

@@ -1,3 +1,2 @@
-pub mod Slopes
 pub mod Ghosts
 pub mod Weights

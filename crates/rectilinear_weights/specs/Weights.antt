@@ -14,7 +14,7 @@ use Rattle.multibspline.specs.Thomas.{at}
 use Rattle.multibspline.specs.declared.saturation.Saturation.{Saturation}
 use Rattle.multibspline.specs.declared.saturation.Saturation.the-variants.{None, InsideLow, OutsideLow, InsideHigh, OutsideHigh}
 use Rattle.rectilinear_basis.specs.Basis.{four, basisSpanWeights}
-use Rattle.rectilinear_weights.specs.Slopes.{basisSpanWeightDerivatives}
+use Rattle.rectilinear_slopes.specs.Slopes.{basisSpanWeightDerivatives}
 
 -- ---- the ghost coefficient past an end, folded into the stored ones
 

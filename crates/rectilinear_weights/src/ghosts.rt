@@ -4,7 +4,7 @@ ghost use Prim.Native.Nat.{_≤_};
 ghost use lib.ListN.{length};
 ghost use lib.Ieee.{binary64};
 ghost use Rattle.rectilinear_weights.specs.Ghosts.{ghostNumbers, lowGhostCoeffs, highGhostCoeffs};
-use crate::slopes::span_weight_third_derivatives;
+use rectilinear_slopes::span_weight_third_derivatives;
 
 // The factors of the three stored coefficients beside a ghost coefficient, in their order on the line.
 pub struct Ghost {

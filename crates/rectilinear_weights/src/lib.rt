@@ -1,12 +1,10 @@
 // One rectilinear axis: the four weights of a query at each place, their slopes, and the ghost coefficients. After interpn's
 // multibspline::rectilinear.
 mod ghosts;
-mod slopes;
 mod weights;
 
 pub use ghosts::Ghost;
 pub use ghosts::high_ghost_coeffs;
 pub use ghosts::low_ghost_coeffs;
-pub use slopes::basis_span_weight_derivatives;
 pub use weights::interp_weight_derivatives;
 pub use weights::interp_weights;

@@ -6,7 +6,7 @@ ghost use lib.Ieee.{binary64};
 ghost use Rattle.rectilinear_weights.specs.Ghosts.{ghostNumbers};
 ghost use Rattle.rectilinear_weights.specs.Weights.{foldLow, foldHigh, linearizedBoundaryWeights, lowBoundaryWeights, highBoundaryWeights, lowBoundaryWeightDerivatives, highBoundaryWeightDerivatives, interpWeights, interpWeightDerivatives};
 use crate::ghosts::Ghost;
-use crate::slopes::basis_span_weight_derivatives;
+use rectilinear_slopes::basis_span_weight_derivatives;
 use interp_math::mul_add;
 use multibspline::Saturation;
 use rectilinear_basis::basis_span_weights;

@@ -3,18 +3,18 @@
 ghost use mathlib.Core.Path.{_≡_};
 ghost use Prim.Native.Nat.{_*_, _≤_};
 ghost use lib.ListN.{length};
-ghost use Rattle.oracle_match.specs.Tasks.{MatchList};
+ghost use Rattle.oracle_tasks.specs.Tasks.{MatchList};
 use crate::call;
 use crate::steps::steps;
 use oracle_list::Compared;
 use oracle_list::both;
-use oracle_match::compare_list;
-use oracle_match::is_kept;
+use oracle_tasks::compare_list;
+use oracle_tasks::is_kept;
 
 // What the buffers hold before a run.
 fn spoil(coeffs: &mut [f64], ledger: &mut [u8], scratch: &mut [f64]) {
     oracle_list::fill(0.5, 1.0, coeffs);
-    oracle_match::fill(ledger);
+    oracle_tasks::fill(ledger);
     oracle_list::fill(-0.25, -1.0, scratch);
 }
 
@@ -35,7 +35,7 @@ fn is_refused_kept(
 {
     spoil(coeffs, ledger, scratch);
     multibspline::copy(coeffs, kept);
-    oracle_match::keep(ledger, saved);
+    oracle_tasks::keep(ledger, saved);
     if call::begin(numbers, grid, samples, coeffs, ledger, scratch) != numbers[10] {
         return false;
     }
@@ -90,7 +90,7 @@ fn is_run(
     requires { ⌜ (length (now numbers) ≡ 13) × (length (now tasks) ≡ length (now told) * 4) × (w ≤ length (now scratch)) ⌝ }
 {
     spoil(coeffs, ledger, scratch);
-    oracle_match::fill(told);
+    oracle_tasks::fill(told);
     if call::begin(numbers, grid, samples, coeffs, ledger, &scratch[..w]) != 0 {
         return false;
     }
@@ -148,7 +148,7 @@ fn by_list(
     ensures { λ r. ⌜ (r ≡ Compared.Same → MatchList (now (text .entry)) first (now (told .exit)) (now (coeffs .exit)) (now (ledger .exit))) ⌝ }
 {
     spoil(coeffs, ledger, scratch);
-    oracle_match::fill(told);
+    oracle_tasks::fill(told);
     let answer = call::fit_by_list(
         numbers,
         grid,
@@ -184,8 +184,8 @@ fn by_list_taken(
     requires { ⌜ (length (now numbers) ≡ 13) × (length (now tasks) ≡ length (now axes) * 4) × (length (now tasks) ≡ length (now lines) * 4) ⌝ }
     ensures { λ r. ⌜ (r ≡ Compared.Same → MatchList (now (text .entry)) first (now (told .exit)) (now (coeffs .exit)) (now (ledger .exit))) ⌝ }
 {
-    oracle_match::every_fourth(tasks, 0, axes);
-    oracle_match::every_fourth(tasks, 1, lines);
+    oracle_tasks::every_fourth(tasks, 0, axes);
+    oracle_tasks::every_fourth(tasks, 1, lines);
     by_list(
         text,
         first,
@@ -267,7 +267,7 @@ pub fn both_ways(
         scratch,
         told,
     );
-    if oracle_match::has_short(tasks) {
+    if oracle_tasks::has_short(tasks) {
         return a;
     }
     let b = by_list_of(

@@ -3,7 +3,7 @@ ghost use mathlib.Core.Path.{_≡_};
 ghost use Prim.Native.Nat.{_*_, _<_};
 ghost use lib.ListN.{length};
 use crate::call;
-use oracle_match::is_kept;
+use oracle_tasks::is_kept;
 
 // One call, on scratch of its length; its answer goes into byte i. Whether it is accepted, or leaves all as it was, which is
 // kept in `kept` and `saved`.
@@ -25,9 +25,9 @@ fn step_kept(
 {
     oracle_list::fill(-0.25, -1.0, scratch);
     multibspline::copy(coeffs, kept);
-    oracle_match::keep(ledger, saved);
+    oracle_tasks::keep(ledger, saved);
     let answer = call::solve_line(numbers, grid, axis, line, coeffs, ledger, scratch);
-    told[i] = oracle_match::byte_of(answer);
+    told[i] = oracle_tasks::byte_of(answer);
     if answer == 0 {
         return true;
     }

@@ -4,7 +4,7 @@ use native.Mathlib.Omega.{arith}
 use lib.ListN.{length}
 use borrow.Author.Needs.{needs}
 use Rattle.oracle_match.proofs.Alike.{Alike, Alike-start, Alike-step, Alike-done}
-use Rattle.oracle_match.proofs.Numbers.{not-true}
+use Rattle.oracle_list.proofs.WordLaws.{not-matched}
 use Rattle.oracle_match.proofs.texts.same_bytes.Statement.{statement}
 use Rattle.oracle_match.proofs.texts.same_bytes.Tie as tie
 
@@ -25,11 +25,11 @@ same-bytes-spec =
     (tie.spec
     Inv
     μ
-    (λ c. not-true)
+    (λ c. not-matched)
     (λ c. Alike-start _ _)
     (λ c. search needs)
     (λ c. search needs)
-    (λ c. not-true)
+    (λ c. not-matched)
     (λ c. search needs)
     (λ c. search needs)
     loop-again
