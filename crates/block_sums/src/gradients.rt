@@ -36,12 +36,7 @@ fn gradient_2(
     let d1 = row(slopes, cap + k);
     let mut part_0 = [0.0f64; 4];
     let sums = parts_1(coeffs, s0, &w0, &d0, first, &mut part_0);
-    [
-        dot4(w1, part_0),
-        dot4(d1, sums),
-        0.0,
-        0.0,
-    ]
+    [dot4(w1, part_0), dot4(d1, sums), 0.0, 0.0]
 }
 
 // Over three axes.
@@ -78,12 +73,7 @@ fn gradient_3(
         &mut part_0,
         &mut part_1,
     );
-    [
-        dot4(w2, part_0),
-        dot4(w2, part_1),
-        dot4(d2, sums),
-        0.0,
-    ]
+    [dot4(w2, part_0), dot4(w2, part_1), dot4(d2, sums), 0.0]
 }
 
 // Over four axes.

@@ -55,7 +55,7 @@ module _ (count : ℕ) (lens : List ℕ) where
       pub striding-fits : next * getD lens (axis - 1) 0 ≤ mostPoints
       striding-fits =
           let e : points (take count lens) (axis - 1) * stride (take count lens) (axis - 1) ≡ next * getD lens (axis - 1) 0 =
-              rw (points-are count lens four u (axis - 1) there, here, add-one (axis - 1)) (mul-comm (getD lens (axis - 1) 0) (stride (take count lens) (axis - 1))) in
+          rw (points-are count lens four u (axis - 1) there, here, add-one (axis - 1)) (mul-comm (getD lens (axis - 1) 0) (stride (take count lens) (axis - 1))) in
           rw e at (room count lens four u (axis - 1) there .row-small)
 
       pub striding-next : Striding (set ss (axis - 1) next) (next * getD lens (axis - 1) 0) (axis - 1)

@@ -10,10 +10,10 @@ ghost use Rattle.evaluation.specs.Batch.{badAt, valueStep, gradientStep, Entrie
 ghost use Rattle.rectilinear_blocks.specs.Map.{RectilinearMap, ghosts};
 ghost use Rattle.rectilinear_blocks.specs.Eval.{valueAt, partAt, rectilinear};
 ghost use Rattle.rectilinear_blocks.specs.Sound.{Sound, Laid};
-use rectilinear_blocks::gradients_block;
-use rectilinear_blocks::values_block;
 use evaluation::block_size;
 use evaluation::strides_of;
+use rectilinear_blocks::gradients_block;
+use rectilinear_blocks::values_block;
 use rectilinear_weights::Ghost;
 
 fn value_blocks(

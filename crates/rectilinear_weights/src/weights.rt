@@ -6,10 +6,10 @@ ghost use lib.Ieee.{binary64};
 ghost use Rattle.rectilinear_weights.specs.Ghosts.{ghostNumbers};
 ghost use Rattle.rectilinear_weights.specs.Weights.{foldLow, foldHigh, linearizedBoundaryWeights, lowBoundaryWeights, highBoundaryWeights, lowBoundaryWeightDerivatives, highBoundaryWeightDerivatives, interpWeights, interpWeightDerivatives};
 use crate::ghosts::Ghost;
-use rectilinear_slopes::basis_span_weight_derivatives;
 use interp_math::mul_add;
 use multibspline::Saturation;
 use rectilinear_basis::basis_span_weights;
+use rectilinear_slopes::basis_span_weight_derivatives;
 
 // The low ghost coefficient, folded into the stored ones.
 fn fold_low(low_ghost: Ghost, raw: [f64; 4]) -> [f64; 4]

@@ -11,13 +11,13 @@ ghost use Rattle.evaluation.specs.Axes.{query, Ready};
 ghost use Rattle.evaluation.specs.Batch.{badAt, valueStep, gradientStep, Entries};
 ghost use Rattle.evaluation.specs.Spline.{Answered, GradientAnswered};
 ghost use Rattle.regular_blocks.specs.Checks.{regular};
-use regular_blocks::gradients_block;
-use regular_blocks::values_block;
 use evaluation::Gradient;
 use evaluation::Valued;
 use evaluation::block_size;
 use evaluation::refused_gradient;
 use evaluation::strides_of;
+use regular_blocks::gradients_block;
+use regular_blocks::values_block;
 use shape::Answer;
 use shape::Refusal;
 
