@@ -4,7 +4,6 @@ use mathlib.Core.Path.{_≡_, refl, sym, ap, _∙_}
 use mathlib.Core.Logic.{inl, inr}
 use mathlib.Core.List.{List, []}
 use Prim.Native.Nat.{ℕ, _+_, _*_, _≤_, _<_}
-use native.Mathlib.Nat.{eq-or-lt-of-le, mul-le-mul-left, mul-le-mul-right}
 use native.Mathlib.Omega.{arith}
 use lib.ListN.{length, getD, take}
 use lib.Ieee.{Float, Format, nan}
@@ -12,7 +11,7 @@ use Rattle.shape.specs.Checks.{mostPoints}
 use Rattle.shape.specs.Sizes.{strideOf}
 use Rattle.knots.specs.Joined.{knotsOf}
 use Rattle.evaluation.specs.Axes.{query}
-use Rattle.evaluation.proofs.Entries.{query-at}
+use Rattle.evaluation.proofs.Weighed.{block-coordinate, block-inside}
 use Rattle.evaluation.proofs.Reach.{below-small}
 use Rattle.rectilinear_blocks.specs.Map.{RectilinearMap}
 use Rattle.rectilinear_blocks.specs.Eval.{firstOn}
@@ -27,13 +26,7 @@ use Rattle.rectilinear_blocks.proofs.Places.{origin-on, first-next, fir
 
 -- those of an axis are in the batch
 pub axis-inside : {count xs n start m : ℕ} (a : ℕ) → a < count → InBatch count xs n start m → a * n + start + m ≤ xs
-axis-inside {n = n} a h b = omega (arith, b .whole, b .inside, mul-le-mul-right n h)
-
--- and are those of its queries
-coordinate : (count : ℕ) (xs : List Float) (n start a k : ℕ) → a < count → count ≤ 4 → getD xs (a * n + start + k) nan ≡ getD (query count xs n (start + k)) a nan
-coordinate count xs n start a k h few =
-    let e : a * n + start + k ≡ a * n + (start + k) = omega arith in
-    rw e (sym (query-at count xs n (start + k) a h few))
+axis-inside {start = start} {m = m} a h b = block-inside a start m h (b .inside) (b .whole)
 
 -- ---- places
 
@@ -51,7 +44,7 @@ module _ (count : ℕ) (lens : List ℕ) (grid xs : List Float) (n start : ℕ) 
     unfolding movedAt countAt
     moved-on k l =
         let x = query count xs n (start + k) in
-        first-next count lens grid x a (w .each k l) (origin-on count lens grid x a part (coordinate count xs n start a k h (g .shape .at-most-four)) (ap (λ loc. loc .origin) (place-is ks _ refl (c .each k l)))) es
+        first-next count lens grid x a (w .each k l) (origin-on count lens grid x a part (block-coordinate count xs n start a k h (g .shape .at-most-four)) (ap (λ loc. loc .origin) (place-is ks _ refl (c .each k l)))) es
 
     pub moved-small : (k : ℕ) → k < m → movedAt (length ks) s counts firsts k ≤ mostPoints
     moved-small k l =
@@ -73,12 +66,8 @@ rows-same e w = record { each = λ k l. w .each k l ∙ e k; before = w .before 
 module _ (f : Format) (map : RectilinearMap) (grid xs : List Float) (n start a : ℕ) (h : a < map .count) (few : map .count ≤ 4) {ks : List Float} (part : ks ≡ knotsOf grid (take (map .count) (map .lens)) a) {low high : List Float} (el : low ≡ getD (map .low) a []) (eh : high ≡ getD (map .high) a []) {base m : ℕ} {old new : List Float} where
   pub weights-rows : RowsPut (weightsAt f ks low high (map .linear) xs (a * n + start)) base m old new → RowsPut (weightsFor f map grid xs n start a) base m old new
   unfolding placeWeights
-  weights-rows w = rows-same (λ k. weights-on f map grid (query (map .count) xs n (start + k)) a part (coordinate (map .count) xs n start a k h few) el eh refl) w
+  weights-rows w = rows-same (λ k. weights-on f map grid (query (map .count) xs n (start + k)) a part (block-coordinate (map .count) xs n start a k h few) el eh refl) w
 
   pub slopes-rows : RowsPut (slopesAt f ks low high (map .linear) xs (a * n + start)) base m old new → RowsPut (slopesFor f map grid xs n start a) base m old new
   unfolding placeSlopes
-  slopes-rows w = rows-same (λ k. slopes-on f map grid (query (map .count) xs n (start + k)) a part (coordinate (map .count) xs n start a k h few) el eh refl) w
-
--- there is room for those of an axis
-pub axis-room : (cap count a m : ℕ) {room : ℕ} → a < count → m ≤ cap → 4 * (cap * count) ≤ room → 4 * (cap * a + m) ≤ room
-axis-room cap count a m h few fits = omega (arith, mul-le-mul-left cap h)
+  slopes-rows w = rows-same (λ k. slopes-on f map grid (query (map .count) xs n (start + k)) a part (block-coordinate (map .count) xs n start a k h few) el eh refl) w

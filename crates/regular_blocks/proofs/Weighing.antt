@@ -4,7 +4,7 @@ use mathlib.Core.Path.{_≡_, refl, sym, ap, _∙_}
 use mathlib.Core.Logic.{_⊎_, inl, inr}
 use mathlib.Core.List.{List}
 use Prim.Native.Nat.{ℕ, suc, _+_, _*_, _≤_, _<_}
-use native.Mathlib.Nat.{eq-or-lt-of-le, mul-le-mul-left, mul-le-mul-right}
+use native.Mathlib.Nat.{eq-or-lt-of-le}
 use native.Mathlib.Omega.{arith}
 use native.Mathlib.Numerals.{add-one}
 use lib.ListN.{length, getD, take}
@@ -16,9 +16,9 @@ use Rattle.regular_weights.specs.Place.{getLoc}
 use Rattle.regular_weights.specs.declared.place.Loc.{Loc}
 use Rattle.evaluation.specs.Axes.{query, Ready}
 use Rattle.evaluation.specs.Block.{RowsPut}
-use Rattle.evaluation.proofs.Entries.{query-at, stride-at}
+use Rattle.evaluation.proofs.Entries.{stride-at}
 use Rattle.evaluation.proofs.Reach.{below-small}
-use Rattle.evaluation.proofs.Weighed.{weighed-none, weighed-next}
+use Rattle.evaluation.proofs.Weighed.{block-coordinate, block-inside, block-room, weighed-none, weighed-next}
 use Rattle.regular_blocks.specs.First as First
 use Rattle.regular_blocks.specs.Map.{RegularMap}
 use Rattle.regular_blocks.specs.Eval.{locOn, firstOn, weightsOn, slopesOn}
@@ -42,10 +42,10 @@ room-firsts e w = rw e w
 
 module _ {count n start cap m xs firsts sats ts rows : ℕ} (w : Room count n start cap m xs firsts sats ts rows) (a good : ℕ) (h : a < count) (k : good ≤ m) where
   pub axis-coordinates : a * n + start + good ≤ xs
-  axis-coordinates = omega (arith, mul-le-mul-right n (let s : suc a ≤ count = h in s), w .batch, w .coordinates)
+  axis-coordinates = block-inside a start good h (omega (arith, w .batch)) (w .coordinates)
 
   pub axis-rows : 4 * (cap * a + good) ≤ rows
-  axis-rows = omega (arith, mul-le-mul-left cap (let s : suc a ≤ count = h in s), w .block, w .in-rows)
+  axis-rows = block-room cap count a good h (omega (arith, w .block)) (w .in-rows)
 
 -- ---- one axis more
 
@@ -61,11 +61,8 @@ module _ (f : Format) (map : RegularMap) (xs : List Float) (n start : ℕ) where
       below-small (map .count) (map .lens) (r .four) (r .shape) a _ (first-below f map (query (map .count) xs n (start + k)) (r .four) (r .shape) a _ h (w .found k g))
 
   module _ (few : map .count ≤ 4) (a : ℕ) (h : a < map .count) where
-    -- the coordinate of entry k
     coordinate : (k : ℕ) → getD xs (a * n + start + k) nan ≡ getD (query (map .count) xs n (start + k)) a nan
-    coordinate k =
-        let e : a * n + start + k ≡ a * n + (start + k) = omega arith in
-        rw e (sym (query-at (map .count) xs n (start + k) a h few))
+    coordinate k = block-coordinate (map .count) xs n start a k h few
 
     on-axis : (k : ℕ) {l : Loc} → getLoc f (getD (map .lens) a 0) (getD (map .starts) a nan) (getD (map .steps) a nan) (getD xs (a * n + start + k) nan) ≡ l
         → locOn f map (query (map .count) xs n (start + k)) a ≡ l
