@@ -9,17 +9,22 @@ ghost use Rattle.evaluation.specs.Block.{RowsPut};
 ghost use Rattle.rectilinear_axis.specs.Axis.{Holds, countAt, placeSlopes, slopesAt};
 use evaluation::put_row;
 use knots::loc_of;
+use rectilinear_slopes::basis_span_weight_derivatives;
 use rectilinear_weights::Ghost;
 use rectilinear_weights::interp_weight_derivatives;
 
-// The slopes at x, with c knots below it.
+// The slopes at x, with c knots below it. On most spans they are those of the span, and the place need not be looked at.
 fn slopes_at(knots: &[f64], low: Ghost, high: Ghost, linear: bool, c: usize, x: f64) -> [f64; 4]
     requires { ⌜ (4 ≤ length (now knots)) × (c ≡ countBelow (now knots) x) ⌝ }
     ensures { λ r. ⌜ r ≡ placeSlopes binary64 (now (knots .entry)) (ghostNumbers low) (ghostNumbers high) linear x ⌝ }
 {
     let loc = loc_of(knots.len(), c);
+    let span = loc.span;
+    if 2 <= span && span + 3 < knots.len() {
+        return basis_span_weight_derivatives(knots, span, x);
+    }
     let sat = loc.sat;
-    interp_weight_derivatives(knots, loc.span, x, sat, linear, low, high)
+    interp_weight_derivatives(knots, span, x, sat, linear, low, high)
 }
 
 // The slopes of each query, into the rows from number `base` on.

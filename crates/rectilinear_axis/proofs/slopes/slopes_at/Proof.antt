@@ -1,19 +1,42 @@
+use Prim.Native.Nat.{_+_, _<_}
+use native.Mathlib.Omega.{arith}
 use denote.Ref.{now}
+use lib.ListN.{length}
+use lib.Ieee.{binary64}
 use borrow.Author.Needs.{needs}
+use borrow.Author.Tests.{ltb-true}
 use Rattle.knots.proofs.Places.{get-loc-within}
 use Rattle.rectilinear_axis.specs.Axis.{placeSlopes}
-use Rattle.rectilinear_axis.proofs.Located.{place-is}
+use Rattle.rectilinear_axis.proofs.Located.{place-is, inner-slopes-are}
 use Rattle.rectilinear_axis.proofs.slopes.slopes_at.Statement.{statement}
 use Rattle.rectilinear_axis.proofs.slopes.slopes_at.Tie as tie
 
-interp-weight-derivatives-requires : tie.Need-interp-weight-derivatives-requires
-interp-weight-derivatives-requires c κs =
+-- both ends of the span are knots
+within : (c : tie.After-loc-of) → c .loc-of .result .span + 1 < length (now (c .before .before .args .knots))
+within c =
     let s = c .before .before in
-    (s .pre .0, rw (place-is (now (s .args .knots)) (s .args .x) (c .loc-of .ensures) (s .pre .1)) (get-loc-within (now (s .args .knots)) (s .args .x) (s .pre .0) .span-room))
+    rw (place-is (now (s .args .knots)) (s .args .x) (c .loc-of .ensures) (s .pre .1)) (get-loc-within (now (s .args .knots)) (s .args .x) (s .pre .0) .span-room)
 
 returns : tie.Need-returns
+returns c =
+    let l = c .before .before .before in
+    let s = l .before .before in
+    inner-slopes-are binary64 (now (s .args .knots)) _ _ (s .args .linear) (s .args .x) (l .loc-of .ensures) (s .pre .1) (c .before .before .if1 .taken) (ltb-true _ _ (c .before .if2 .taken)) (c .basis-span-weight-derivatives .ensures)
+
+returns-2 : tie.Need-returns-2
 unfolding placeSlopes
-returns c = let s = c .before .before .before in rw (place-is (now (s .args .knots)) (s .args .x) (c .before .loc-of .ensures) (s .pre .1)) at (c .interp-weight-derivatives .ensures)
+returns-2 c =
+    let l = c .before .before in
+    let s = l .before .before in
+    rw (place-is (now (s .args .knots)) (s .args .x) (l .loc-of .ensures) (s .pre .1)) at (c .interp-weight-derivatives .ensures)
 
 pub slopes-at-spec : {M : Type 1} → statement M
-slopes-at-spec = tie.close (tie.spec (λ c κs. search needs) interp-weight-derivatives-requires returns)
+slopes-at-spec =
+    tie.close
+    (tie.spec
+    (λ c κs. search needs)
+    (λ c. omega (arith, within (c .before)))
+    (λ c κs. (c .before .before .before .before .pre .0, within (c .before .before)))
+    returns
+    (λ c κs. (c .before .before .before .pre .0, within (c .before)))
+    returns-2)
