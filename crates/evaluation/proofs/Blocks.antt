@@ -68,11 +68,6 @@ slope-alone f coefs strides weights slopes sums first some e =
 pub firsts-less : {firsts : List ℕ} {m r c : ℕ} (r′ : ℕ) → r′ ≤ r → Firsts firsts m r c → Firsts firsts m r′ c
 firsts-less r′ h w = record { within = λ k l. omega (arith, w .within k l, h) }
 
--- ---- the parts of one gradient
-
-pub part-next : (g : ℕ → Float) (l : List Float) (n at i : ℕ) {r : List Float} {x : Float} {p : ℕ} → p ≡ i * n + at → x ≡ g i → r ≡ put (λ j. j * n + at) g i l → set r p x ≡ put (λ j. j * n + at) g (suc i) l
-part-next g l n at i e v w = rw (e, v, w)
-
 -- ---- the loop over the entries of a block
 
 pub record Writing (step : ℕ → List Float → List Float) (m : ℕ) (out₀ out : List Float) (k : ℕ) : Type 0 where

@@ -3,7 +3,8 @@ ghost use mathlib.Core.Path.{_≡_};
 ghost use Rattle.shape.specs.Usable.{Usable};
 ghost use Rattle.evaluation.specs.Axes.{strides};
 
-// From the last axis to the first: the stride of an axis is that of the axis after it times its length.
+// From the last axis, whose stride is 1, to the first: the stride of an axis is that of the axis after it times that axis's
+// length.
 pub fn strides_of(count: usize, dims: [usize; 4]) -> [usize; 4]
     requires { ⌜ Usable count dims ⌝ }
     ensures { λ r. ⌜ r ≡ strides count dims ⌝ }
