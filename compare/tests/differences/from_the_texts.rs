@@ -2,7 +2,7 @@
 use crate::ask::{Both, Rectilinear, Regular, regular_fit, scratch_before};
 use crate::given::{float, floats, same};
 use crate::texts::{
-    Row, basis, cardinal, cardinal_slopes, derivative, lagrange_slope, repeated, spaced, third_difference, thomas,
+    Row, basis, cardinal, cardinal_slopes, derivative, lagrange_slope, repeated, spaced, sum, third_difference, thomas,
 };
 use crate::{Case, Ran, hold};
 use interpn::multibspline::rectilinear::doors;
@@ -23,7 +23,7 @@ const ROWS: &[Listed] = &[
     ("regular slopes", regular_slopes),
     ("regular, x below the start", below_the_start),
     ("regular, x just below the last point", below_the_last_point),
-    ("regular, x at the last point", at_the_last_point),
+    ("regular, x at the last point, start + (n - 1) step rounded", at_the_last_point),
     ("rectilinear, x at a knot", at_a_knot),
     ("A2.2, knots past the ends", knots_past_the_ends),
     ("A2.2, x outside the knots", outside_the_knots),
@@ -78,57 +78,81 @@ fn regular_rows() -> Seen {
     }
 }
 
+// The cell of a query that has its four coefficients in the map, and its t, by the quotient.
+fn cell(query: Regular) -> (usize, f64) {
+    let quotient = (query.x - query.start) / query.step;
+    (quotient.floor() as usize, quotient - quotient.floor())
+}
+
 fn regular_weights() -> Seen {
     let query = Regular { start: 0.0, step: 1.0, coefs: &[0.0, 1.0, 0.0, 0.0], x: 1.5, linear: false };
-    Seen { input: query.input(), text: basis(&|i| i as f64, 1, query.x)[1], both: query.value() }
+    let (cell, _) = cell(query);
+    let weights = basis(&|i| query.start + i as f64 * query.step, cell as isize, query.x);
+    Seen { input: query.input(), text: sum(weights, &query.coefs[cell - 1..]), both: query.value() }
 }
 
 fn regular_t() -> Seen {
     let query = Regular { start: 0.0, step: 0.1, coefs: &[0.0, 0.0, 0.0, 0.0, 1.0], x: 0.25, linear: false };
-    let quotient = (query.x - query.start) / query.step;
-    let (t, both) = (quotient - quotient.floor(), query.value());
-    assert!(t == 0.5 && both.rust == cardinal(0.4999999999999999)[3], "t itself");
-    Seen { input: query.input(), text: cardinal(t)[3], both }
+    let (cell, t) = cell(query);
+    let value = |t: f64| sum(cardinal(t), &query.coefs[cell - 1..]);
+    let both = query.value();
+    assert!(t == 0.5 && both.rust == value(0.4999999999999999), "t itself, as the row says");
+    Seen { input: query.input(), text: value(t), both }
 }
 
 fn regular_slopes() -> Seen {
     let query = Regular { start: 0.0, step: 0.1, coefs: &[0.0, 0.0, 1.0, 0.0], x: 0.12, linear: false };
-    let t = (query.x - (query.start + query.step)) / query.step;
-    Seen { input: format!("{}: slope", query.input()), text: cardinal_slopes(t)[2] / query.step, both: query.slope() }
-}
-
-// Outside, the slope is that of the straight line: half the difference of the coefficients on either side of the start, of which
-// the one before it is -3.
-fn below_the_start() -> Seen {
-    let query = Regular { start: 0.0, step: f64::INFINITY, coefs: &[0.0, 1.0, 0.0, 0.0], x: -1.0, linear: true };
-    let text = (1.0 - -3.0) / 2.0 / query.step;
+    let (cell, _) = cell(query);
+    let t = (query.x - (query.step * cell as f64 + query.start)) / query.step;
+    let text = sum(cardinal_slopes(t), &query.coefs[cell - 1..]) / query.step;
     Seen { input: format!("{}: slope", query.input()), text, both: query.slope() }
 }
 
-// Inside, x is on the cubic of the last cell, into which the coefficient past the end is folded.
+// Outside, the slope is that of the straight line: half the difference of the coefficients on either side of the start, of which
+// the one before it goes on as the first three do.
+fn below_the_start() -> Seen {
+    let query = Regular { start: 0.0, step: f64::INFINITY, coefs: &[0.0, 1.0, 0.0, 0.0], x: -1.0, linear: true };
+    let before = 3.0 * query.coefs[0] - 3.0 * query.coefs[1] + query.coefs[2];
+    let text = (query.coefs[1] - before) / 2.0 / query.step;
+    Seen { input: format!("{}: slope", query.input()), text, both: query.slope() }
+}
+
+// Inside, x is on the cubic of the last cell of four points, into which the coefficient past the end is folded.
 fn last_cell(query: Regular) -> Seen {
-    let t = (query.x - (query.start + query.step)) / query.step - 1.0;
-    let weights = cardinal(t);
-    Seen { input: query.input(), text: weights[1] - 3.0 * weights[3], both: query.value() }
+    let raw = cardinal((query.x - (query.step + query.start)) / query.step - 1.0);
+    let weights = [0.0, raw[0] + raw[3], raw[1] - 3.0 * raw[3], raw[2] + 3.0 * raw[3]];
+    Seen { input: query.input(), text: sum(weights, query.coefs), both: query.value() }
 }
 
 fn below_the_last_point() -> Seen {
-    last_cell(Regular { start: 0.0, step: 1.7, coefs: &[0.0, 0.0, 1.0, 0.0], x: 5.1, linear: true })
+    let query = Regular { start: 0.0, step: 1.7, coefs: &[0.0, 0.0, 1.0, 0.0], x: 5.1, linear: true };
+    assert!(query.step.mul_add(3.0, -query.x) > 0.0, "x is below three steps, not rounded");
+    last_cell(query)
 }
 
 fn at_the_last_point() -> Seen {
-    last_cell(Regular { start: 0.3, step: 1.0, coefs: &[0.0, 0.0, 1.0, 0.0], x: 3.3, linear: true })
+    let query = Regular { start: 0.3, step: 1.0, coefs: &[0.0, 0.0, 1.0, 0.0], x: 3.3, linear: true };
+    assert!(query.start + 3.0 * query.step == query.x, "x is at three steps, rounded");
+    last_cell(query)
+}
+
+// The span of a coordinate by algorithm A2.1: it begins at or below it.
+fn span(query: Rectilinear) -> usize {
+    query.knots.iter().filter(|&&knot| knot <= query.x).count() - 1
 }
 
 fn at_a_knot() -> Seen {
-    let knots = [0.0, 0.1, 0.3, 0.6, 0.9];
-    let query = Rectilinear { knots: &knots, coefs: &[0.0, 0.0, 1.0, 0.0, 0.0], x: 0.3 };
-    Seen { input: query.input(), text: basis(&|i| spaced(&knots, i), 2, query.x)[1], both: query.value() }
+    let query = Rectilinear { knots: &[0.0, 0.1, 0.3, 0.6, 0.9], coefs: &[0.0, 0.0, 1.0, 0.0, 0.0], x: 0.3 };
+    let span = span(query);
+    let weights = basis(&|i| spaced(query.knots, i), span as isize, query.x);
+    Seen { input: query.input(), text: sum(weights, &query.coefs[span - 1..]), both: query.value() }
 }
 
 fn knots_past_the_ends() -> Seen {
     let query = Rectilinear { knots: &UNEVEN, coefs: &[0.0, 0.0, 0.0, 0.0, 1.0], x: 3.0 };
-    Seen { input: query.input(), text: basis(&|i| repeated(&UNEVEN, i), 2, query.x)[3], both: query.value() }
+    let span = span(query);
+    let weights = basis(&|i| repeated(&UNEVEN, i), span as isize, query.x);
+    Seen { input: query.input(), text: sum(weights, &query.coefs[span - 1..]), both: query.value() }
 }
 
 // No basis function reaches past the last knot.
@@ -137,42 +161,52 @@ fn outside_the_knots() -> Seen {
     Seen { input: query.input(), text: 0.0, both: query.value() }
 }
 
+// Derivatives of the four basis functions on a span.
+fn derivatives(knots: &[f64], span: isize, order: u32, x: f64) -> [f64; 4] {
+    std::array::from_fn(|j| derivative(&|i| spaced(knots, i), (span - 3 + j as isize, 3, order), span, x))
+}
+
 fn rectilinear_slopes() -> Seen {
     let query = Rectilinear { knots: &UNEVEN, coefs: &[0.0, 0.0, 1.0, 0.0, 0.0], x: 3.0 };
-    let text = derivative(&|i| spaced(&UNEVEN, i), (0, 3, 1), 2, query.x);
+    let span = span(query);
+    let slopes = derivatives(&UNEVEN, span as isize, 1, query.x);
+    let text = sum(slopes, &query.coefs[span - 1..]);
     Seen { input: format!("{}: slope", query.input()), text, both: query.slope() }
 }
 
-// The coefficient before the first counts as -q1 / q0 of it, by the third derivatives on the first span.
-fn ghost_numbers() -> Seen {
-    let query = Rectilinear { knots: &UNEVEN, coefs: &[1.0, 0.0, 0.0, 0.0, 0.0], x: 0.25 };
-    let knot = |i: isize| spaced(&UNEVEN, i);
-    let third = |i: isize| derivative(&knot, (i, 3, 3), 0, query.x);
-    let weights = basis(&knot, 0, query.x);
-    let text = weights[0] * (-third(-2) / third(-3)) + weights[1];
-    Seen { input: query.input(), text, both: query.value() }
+// Four numbers of the first span, the first of them of the coefficient before it, which is put in terms of the other three: so
+// that the third derivative, these numbers q, is 0.
+fn folded(raw: [f64; 4], q: [f64; 4]) -> [f64; 4] {
+    let of = |j: usize| raw[0] * (-q[j] / q[0]) + raw[j];
+    [of(1), of(2), of(3), 0.0]
 }
 
-// The sample itself is the Rust's own; that the library has it too is seen in a slope.
+fn ghost_numbers() -> Seen {
+    let query = Rectilinear { knots: &UNEVEN, coefs: &[1.0, 0.0, 0.0, 0.0, 0.0], x: 0.25 };
+    let weights = basis(&|i| spaced(&UNEVEN, i), 0, query.x);
+    let weights = folded(weights, derivatives(&UNEVEN, 0, 3, query.x));
+    Seen { input: query.input(), text: sum(weights, query.coefs), both: query.value() }
+}
+
+// The sample itself is the Rust's own; that the library has it too is seen in a slope, which would be another with the text's.
 fn span_samples() -> Seen {
     let query = Rectilinear { knots: &[0.2, 0.9, 2.0, 3.0], coefs: &[1.0, 0.0, 0.0, 0.0], x: 0.9 };
     let samples = doors::span_samples(query.knots, 0);
-    let slope = query.slope();
-    let at = |last: f64| slope_by(query, [samples[0], samples[1], samples[2], last]);
-    assert!(same(at(samples[3]), slope.rust) && !same(at(query.knots[1]), slope.rust), "the slope shows the sample");
-    let here = if same(slope.here, slope.rust) { samples[3] } else { f64::NAN };
+    let text = query.knots[1];
+    let slope_with = |last: f64| slope_by(query, [samples[0], samples[1], samples[2], last]);
+    let is_here = same(slope_with(samples[3]), query.slope().here) && !same(slope_with(text), query.slope().here);
     Seen {
         input: format!("knots {}: last sample of the first span", floats(query.knots)),
-        text: query.knots[1],
-        both: Both { rust: samples[3], here },
+        text,
+        both: Both { rust: samples[3], here: if is_here { samples[3] } else { f64::NAN } },
     }
 }
 
-// The slope of the first coefficient on the first span, from these samples.
+// The slope on the first span from these samples, as the Rust has it.
 fn slope_by(query: Rectilinear, samples: [f64; 4]) -> f64 {
     let values = samples.map(|x| basis(&|i| spaced(query.knots, i), 0, x));
     let of = |j: usize| values.map(|weights| weights[j]);
-    let third = |j: usize| 6.0 * third_difference(samples, of(j));
-    let slope = |j: usize| lagrange_slope(samples, of(j), query.x);
-    slope(0) * (-third(1) / third(0)) + slope(1)
+    let slopes = std::array::from_fn(|j| lagrange_slope(samples, of(j), query.x));
+    let thirds = std::array::from_fn(|j| 6.0 * third_difference(samples, of(j)));
+    sum(folded(slopes, thirds), query.coefs)
 }

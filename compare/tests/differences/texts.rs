@@ -75,6 +75,12 @@ pub fn repeated(grid: &[f64], i: isize) -> f64 {
     grid[i.clamp(0, grid.len() as isize - 1) as usize]
 }
 
+// Four coefficients with their weights, in pairs.
+pub fn sum(weights: [f64; 4], coefs: &[f64]) -> f64 {
+    let pair = |i: usize| weights[i + 1] * coefs[i + 1] + weights[i] * coefs[i];
+    pair(0) + pair(2)
+}
+
 // The cardinal cubic B-spline on a cell.
 pub fn cardinal(t: f64) -> [f64; 4] {
     let (square, cube) = (t * t, t * t * t);
