@@ -16,7 +16,7 @@ pub(crate) fn index_arr_fixed_dims<T: Copy, const N: usize>(loc: [usize; N], dim
 }
 ";
 
-// With the feature `doors`: lines at the end of the two files of the grids, by which the test of ../docs/DIFFERENCES.md reaches
+// With the feature `doors`: lines at the end of the two files of the grids, by which the test of docs/DIFFERENCES.md reaches
 // what they keep to themselves. Their own text stays as it is.
 const DOORS: [(&str, &str); 3] = [
     ("mod.rs", ""),

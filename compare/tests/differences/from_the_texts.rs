@@ -108,8 +108,8 @@ fn regular_slopes() -> Seen {
     Seen { input: format!("{}: slope", query.input()), text, both: query.slope() }
 }
 
-// Outside, the slope is that of the straight line: half the difference of the coefficients on either side of the start, of which
-// the one before it goes on as the first three do.
+// Outside, the slope is that of the straight line: half the difference of the coefficients on either side of the start, of
+// which the one before it goes on as the first three do.
 fn below_the_start() -> Seen {
     let query = Regular { start: 0.0, step: f64::INFINITY, coefs: &[0.0, 1.0, 0.0, 0.0], x: -1.0, linear: true };
     let before = 3.0 * query.coefs[0] - 3.0 * query.coefs[1] + query.coefs[2];
@@ -174,8 +174,8 @@ fn rectilinear_slopes() -> Seen {
     Seen { input: format!("{}: slope", query.input()), text, both: query.slope() }
 }
 
-// Four numbers of the first span, the first of them of the coefficient before it, which is put in terms of the other three: so
-// that the third derivative, these numbers q, is 0.
+// Four numbers of the first span, of which the first belongs to the coefficient before the map's. It is put in terms of the
+// other three, so that the third derivative is 0; q are those of the four.
 fn folded(raw: [f64; 4], q: [f64; 4]) -> [f64; 4] {
     let of = |j: usize| raw[0] * (-q[j] / q[0]) + raw[j];
     [of(1), of(2), of(3), 0.0]

@@ -1,5 +1,5 @@
-// Lengths that disagree. Most of them cannot be said in the Rust, which has arrays of as many as there are axes, and a slice for
-// each axis.
+// Lengths that disagree. Most of them cannot be said in the Rust, which has arrays of as many as there are axes, and a slice
+// for each axis.
 use crate::ask::shape;
 use crate::from_the_rust::Sides;
 use crate::given::Given::{Number, Said, Unsayable};

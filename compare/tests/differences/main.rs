@@ -1,6 +1,6 @@
-// Runs every row of ../../../docs/DIFFERENCES.md: on the Rust and on the library, and by the text where the row is about one.
-// It fails where a row has no case or a case no row, where the two sides do not differ, and where a cell of the document says
-// otherwise than what was run.
+// Runs every row of docs/DIFFERENCES.md: on the Rust and on the library, and by the text where the row is about one. It fails
+// where a row has no case or a case no row, where the two sides do not differ, and where a cell of the document says otherwise
+// than what was run.
 mod ask;
 mod calls;
 mod document;
@@ -21,11 +21,13 @@ pub struct Ran {
     pub faults: Vec<String>,
 }
 
-// A row of the document, by its first cell, and how it is run.
+// A row of the document, by its first cell, and how it is run and held to the row's cells.
 pub struct Case {
     pub row: &'static str,
-    pub run: Box<dyn Fn(&[String]) -> Ran>,
+    pub run: Run,
 }
+
+type Run = Box<dyn Fn(&[String]) -> Ran>;
 
 fn main() -> ExitCode {
     let [rust, texts] = document::tables();
