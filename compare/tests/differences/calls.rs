@@ -9,7 +9,8 @@ use std::panic;
 
 const COEFS: [f64; 4] = [0.0, 1.0, 2.0, 3.0];
 
-// The library for C has `solve_line` in its line call alone: line 0 of axis 0 of lengths 4, 8 is this line.
+// The library for C has no `solve_line`. The nearest call is the line call, of line 0 of axis 0 of lengths 4, 8, which is this
+// line: it is refused by the length of the coefficients, before `solve_line` is reached.
 pub fn line_past_the_coefficients() -> Sides {
     let usual = panic::take_hook();
     panic::set_hook(Box::new(|_| ()));
