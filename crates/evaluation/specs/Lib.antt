@@ -3,4 +3,5 @@ pub mod Spline
 pub mod Batch
 pub mod Total
 pub mod Built
+pub mod Place
 pub mod Block
