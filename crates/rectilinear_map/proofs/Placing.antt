@@ -1,10 +1,10 @@
 -- The checks of a rectilinear map's record with its joined grid, and what `place` answers, outcome by outcome. Assumes
 -- nothing.
-use mathlib.Core.Path.{_≡_, refl, sym, ap, _∙_}
+use mathlib.Core.Path.{_≡_, sym, ap, _∙_}
 use mathlib.Core.List.{List, [], _++_}
 use Prim.Native.Nat.{ℕ, _≤_, _<_}
 use native.Mathlib.Omega.{arith}
-use lib.ListN.{length, take}
+use lib.ListN.{take}
 use lib.Ieee.{Float}
 use Rattle.shape.specs.Shape.{size}
 use Rattle.shape.specs.Checks.{firstRefusal, shapeChecks, lengthCheck, Positive}
@@ -19,12 +19,10 @@ use Rattle.knots.specs.Checks.{gridCheck, knotsCheck}
 use Rattle.knots.specs.declared.place.Loc.{Loc}
 use Rattle.evaluation.specs.Place.{placeChecks}
 use Rattle.evaluation.proofs.Placing.{place-refused, place-found, place-is, left-out, others-passed, storage-passes, place-checks, place-no-axis, place-axis}
-use Rattle.rectilinear_blocks.specs.Eval.{mapAnswer}
-use Rattle.rectilinear_blocks.specs.Sound.{Gridded}
+use Rattle.rectilinear_blocks.specs.Eval.{mapChecks, mapAnswer}
 use Rattle.rectilinear_map.specs.declared.answers.Placed.{Placed}
 use Rattle.rectilinear_map.specs.declared.answers.Placed.the-variants as Placed
 use Rattle.rectilinear_map.specs.Place.{locAt, gridChecks, placedLoc, RectilinearPlaced}
-use Rattle.rectilinear_map.proofs.Checks.{sound-accepted}
 
 -- ---- the checks of a record with its grid
 
@@ -42,12 +40,10 @@ module _ (count : ℕ) (lens : List ℕ) (grid : List Float) where
       (λ e. storage-passes count lens (prefix-passed (shapeChecks count lens) (gridCheck dims grid) e))
 
   -- an accepted map has an accepted record and grid
-  pub gridded-accepted : length lens ≡ 4 → Gridded count lens grid → firstRefusal (gridChecks count lens grid) ≡ 0
-  unfolding mapAnswer
-  gridded-accepted four g =
+  pub map-grid : (coefs : ℕ) → firstRefusal (mapChecks count lens grid coefs) ≡ 0 → firstRefusal (gridChecks count lens grid) ≡ 0
+  map-grid coefs e =
       let dims = take count lens in
-      others-passed (shapeChecks count lens ++ gridCheck dims grid) (lengthCheck (size dims) (size dims)) (knotsCheck dims grid) (omega arith, (omega arith, (omega arith, (omega arith, tt)))) (omega arith, tt)
-      (sound-accepted count lens grid (size dims) four (record { gridded = g; sized = refl }))
+      others-passed (shapeChecks count lens ++ gridCheck dims grid) (lengthCheck (size dims) coefs) (knotsCheck dims grid) (omega arith, (omega arith, (omega arith, (omega arith, tt)))) (omega arith, tt) e
 
   -- what is told by the checks of a map with as many coefficients as the shape wants
   module _ {coefs : ℕ} (sized : coefs ≡ coeffStorageLen count lens) {y : Answer} where
