@@ -11,21 +11,25 @@ use borrow.Author.Tests.{eq-eqb, ne-eqb}
 use Rattle.shape.specs.Refusal.{refusalNumber}
 use Rattle.shape.specs.declared.answers.Refusal.{Refusal}
 use Rattle.shape.specs.declared.answers.Refusal.the-variants as Refusal
-use Rattle.shape.specs.Usable.{Usable}
-use Rattle.shape.proofs.Accepted.{refusal-suc}
+use Rattle.shape.specs.Checks.{firstRefusal, Positive}
+use Rattle.shape.proofs.Accepted.{refusal-suc, both-passed}
+use Rattle.shape.proofs.Checks.{length-passed}
 use Rattle.multibspline.specs.Numbers.{f0}
 use Rattle.evaluation.specs.Axes.{zeros, query}
-use Rattle.evaluation.specs.Spline.{oneAnswer, gradient, OneValue, OneGradient}
+use Rattle.evaluation.specs.Spline.{Spline, oneAnswer, gradient, OneValue, OneGradient}
 use Rattle.evaluation.specs.Records.{valuedNumber, valuedValue}
 use Rattle.evaluation.specs.declared.answers.Valued.{Valued}
 use Rattle.evaluation.specs.declared.answers.Valued.the-variants.{Value, Refused}
 use Rattle.regular_blocks.specs.Map.{RegularMap}
 use Rattle.regular_blocks.specs.Checks.{regular}
-use Rattle.regular_map.proofs.Total as Regular
+use Rattle.regular_map.specs.Place.{recordChecks}
+use Rattle.regular_map.proofs.Steps as Regular
+use Rattle.regular_map.proofs.Placing.{map-record}
 use Rattle.rectilinear_blocks.specs.Map.{RectilinearMap}
 use Rattle.rectilinear_blocks.specs.Eval.{rectilinear}
-use Rattle.rectilinear_blocks.specs.Sound.{Gridded}
-use Rattle.rectilinear_map.proofs.Total as Rectilinear
+use Rattle.rectilinear_map.specs.Place.{gridChecks}
+use Rattle.rectilinear_map.proofs.Checks as Rectilinear
+use Rattle.rectilinear_map.proofs.Placing.{map-grid}
 use Rattle.map_spline.specs.Surface.{Surface, Replied}
 
 -- a refusal's number has one digit
@@ -74,15 +78,21 @@ module _ (s : Surface) (x : List Float) (v : Valued) (h : OneValue (s .spline) x
         four-parts = ap length z;
       }
 
--- what an answered query says of the map
-pub regular-asked : (m : RegularMap) (coefs x : List Float) (v : Valued) (value : Float) → length (m .lens) ≡ 4 → length (m .steps) ≡ 4
-    → OneValue (regular binary64 m coefs) x (valuedNumber v) (valuedValue v) → v ≡ Value value → Usable (m .count) (m .lens) × (length x ≡ m .count)
-regular-asked m coefs x v value four four′ h told =
-    let w = Regular.one-total binary64 m coefs x four four′ .0 (sym (h .answers) ∙ ap valuedNumber told) in
-    (w .0 .shape, w .1)
+-- what an answered query says of the map, whose checks have passed, and of its length
+asked : (s : Spline) → Positive (s .checks) → (x : List Float) → oneAnswer s x ≡ 0 → (firstRefusal (s .checks) ≡ 0) × (length x ≡ s .axes)
+unfolding oneAnswer
+asked s pos x e =
+    let w = both-passed (s .checks) _ pos e in
+    (w .0, length-passed _ (s .axes) (length x) (w .1) .0)
 
-pub rectilinear-asked : (m : RectilinearMap) (grid coefs x : List Float) (v : Valued) (value : Float) → length (m .lens) ≡ 4
-    → OneValue (rectilinear binary64 m grid coefs) x (valuedNumber v) (valuedValue v) → v ≡ Value value → Gridded (m .count) (m .lens) grid × (length x ≡ m .count)
-rectilinear-asked m grid coefs x v value four h told =
-    let w = Rectilinear.one-total binary64 m grid coefs x four .0 (sym (h .answers) ∙ ap valuedNumber told) in
-    (w .0 .gridded, w .1)
+pub regular-asked : (m : RegularMap) (coefs x : List Float) (v : Valued) (value : Float) → OneValue (regular binary64 m coefs) x (valuedNumber v) (valuedValue v) → v ≡ Value value
+    → (firstRefusal (recordChecks (m .count) (m .lens) (m .steps)) ≡ 0) × (length x ≡ m .count)
+regular-asked m coefs x v value h told =
+    let w = asked (regular binary64 m coefs) (Regular.map-numbered (m .count) (m .lens) (m .steps) (length coefs)) x (sym (h .answers) ∙ ap valuedNumber told) in
+    (map-record (m .count) (m .lens) (m .steps) (length coefs) (w .0), w .1)
+
+pub rectilinear-asked : (m : RectilinearMap) (grid coefs x : List Float) (v : Valued) (value : Float) → OneValue (rectilinear binary64 m grid coefs) x (valuedNumber v) (valuedValue v) → v ≡ Value value
+    → (firstRefusal (gridChecks (m .count) (m .lens) grid) ≡ 0) × (length x ≡ m .count)
+rectilinear-asked m grid coefs x v value h told =
+    let w = asked (rectilinear binary64 m grid coefs) (Rectilinear.map-numbered (m .count) (m .lens) grid (length coefs)) x (sym (h .answers) ∙ ap valuedNumber told) in
+    (map-grid (m .count) (m .lens) grid (length coefs) (w .0), w .1)

@@ -58,7 +58,7 @@ fn ask_regular(
     match valued {
         Valued::Value(value) => {
             let gradient = map.interp_one_grad(coeffs, x);
-            let outside = regular_outside(count, dims, starts, steps, x);
+            let outside = regular_outside(map, x);
             let parts = gradient.parts;
             Reply {
                 number: 0,
@@ -94,7 +94,7 @@ fn ask_rectilinear(
     match valued {
         Valued::Value(value) => {
             let gradient = map.interp_one_grad(grid, coeffs, x);
-            let outside = rectilinear_outside(count, dims, grid, x);
+            let outside = rectilinear_outside(map, grid, x);
             let parts = gradient.parts;
             Reply {
                 number: 0,

@@ -1,5 +1,4 @@
 use borrow.Author.Needs.{needs}
-use native.Mathlib.Omega.{arith}
 use lib.Ieee.{binary64}
 use Rattle.map_spline.specs.Surface.{regularSurface}
 use Rattle.map_spline.proofs.Asking.{replied, replied-refused, regular-asked}
@@ -22,7 +21,7 @@ interp-one-grad-requires : tie.Need-interp-one-grad-requires
 interp-one-grad-requires c κs = search needs
 
 regular-outside-requires : tie.Need-regular-outside-requires
-regular-outside-requires c κs = let s = c .before .before .before .before .before .before .before in let a = s .args in regular-asked (record { count = a .count; lens = a .dims; starts = a .starts; steps = a .steps; linear = a .linear }) (a .coeffs .now) (a .x .now) _ _ (omega (arith, s .good)) (omega (arith, s .good)) (c .before .before .before .before .interp-one .ensures) (c .before .before .valued .given .1)
+regular-outside-requires c κs = let s = c .before .before .before .before .before .before .before in let a = s .args in regular-asked (record { count = a .count; lens = a .dims; starts = a .starts; steps = a .steps; linear = a .linear }) (a .coeffs .now) (a .x .now) _ _ (c .before .before .before .before .interp-one .ensures) (c .before .before .valued .given .1)
 
 enum-known-valued-2 : tie.Need-enum-known-valued-2
 enum-known-valued-2 c = search needs
