@@ -2,15 +2,14 @@
 use mathlib.Core.Path.{_≡_, refl, sym, ap, _∙_}
 use mathlib.Core.Bool.{Bool, true, false, cond, _&&_}
 use mathlib.Core.List.{List}
-use Prim.Native.Nat.{ℕ, suc, _-_, _<_}
+use Prim.Native.Nat.{ℕ}
 use native.Mathlib.Omega.{arith}
-use lib.Dec.{eqb, lit<}
+use lib.Dec.{eqb}
 use lib.ListN.{length, take}
 use lib.Ieee.{Float, binary64}
 use borrow.Author.Tests.{eq-eqb, ne-eqb}
 use Rattle.shape.specs.Refusal.{refusalNumber}
 use Rattle.shape.specs.declared.answers.Refusal.{Refusal}
-use Rattle.shape.specs.declared.answers.Refusal.the-variants as Refusal
 use Rattle.shape.specs.Checks.{firstRefusal, Positive}
 use Rattle.shape.proofs.Accepted.{refusal-suc, both-passed}
 use Rattle.shape.proofs.Checks.{length-passed}
@@ -30,19 +29,7 @@ use Rattle.rectilinear_blocks.specs.Eval.{rectilinear}
 use Rattle.rectilinear_map.specs.Place.{gridChecks}
 use Rattle.rectilinear_map.proofs.Checks as Rectilinear
 use Rattle.rectilinear_map.proofs.Placing.{map-grid}
-use Rattle.map_spline.specs.Surface.{Surface, Replied}
-
--- a refusal's number has one digit
-refusal-digit : (r : Refusal) → refusalNumber r < 10
-refusal-digit Refusal.AxisCount = lit< tt
-refusal-digit Refusal.DimensionMismatch = lit< tt
-refusal-digit Refusal.TooManyPoints = lit< tt
-refusal-digit Refusal.ScratchTooSmall = lit< tt
-refusal-digit Refusal.NotIncreasing = lit< tt
-refusal-digit Refusal.Unrepresentable = lit< tt
-refusal-digit Refusal.NoSuchLine = lit< tt
-refusal-digit Refusal.AlreadySolved = lit< tt
-refusal-digit Refusal.NotDue = lit< tt
+use Rattle.map_spline.specs.Surface.{Surface, askedValue, askedGradient, Replied}
 
 module _ (s : Surface) (x : List Float) (v : Valued) (h : OneValue (s .spline) x (valuedNumber v) (valuedValue v)) where
   module _ (value : Float) (told : v ≡ Value value) where
@@ -56,27 +43,42 @@ module _ (s : Surface) (x : List Float) (v : Valued) (h : OneValue (s .spline) x
         let yes′ : eqb answer 0 ≡ true = eq-eqb answer 0 (g .answers ∙ accepted) in
         record {
           the-number = sym accepted;
-          the-value = λ _. sym (ap valuedValue told) ∙ h .valued ∙ ap (λ (t : Bool). cond t (s .spline .value q) f0) (eq-eqb (valuedNumber v) 0 (ap valuedNumber told));
-          the-gradient = λ _. ap (take (s .spline .axes)) (g .gradient ∙ ap (λ (t : Bool). cond t (gradient (s .spline) q) zeros) yes′);
+          the-value = sym (ap valuedValue told) ∙ h .valued ∙ ap (λ (t : Bool). cond t (s .spline .value q) f0) (eq-eqb (valuedNumber v) 0 (ap valuedNumber told));
+          the-gradient = g .gradient ∙ ap (λ (t : Bool). cond t (gradient (s .spline) q) zeros) yes′;
           is-outside = o ∙ ap (λ (t : Bool). t && s .outside x) (sym yes);
-          one-digit = lit< tt;
-          four-parts = ap length (g .gradient ∙ ap (λ (t : Bool). cond t (gradient (s .spline) q) zeros) yes′);
         }
 
   pub replied-refused : (refusal : Refusal) → v ≡ Refused refusal → (number : ℕ) (value : Float) (outside : Bool) (parts : List Float)
-      → number ≡ refusalNumber refusal → outside ≡ false → parts ≡ zeros → Replied s x number value outside parts
-  replied-refused refusal told number value outside parts n o z =
+      → number ≡ refusalNumber refusal → value ≡ f0 → outside ≡ false → parts ≡ zeros → Replied s x number value outside parts
+  replied-refused refusal told number value outside parts n w o z =
+      let q = query (s .spline .axes) x 1 0 in
       let same : refusalNumber refusal ≡ oneAnswer (s .spline) x = sym (ap valuedNumber told) ∙ h .answers in
       let above = refusal-suc refusal in
-      let no : eqb (oneAnswer (s .spline) x) 0 ≡ false = ne-eqb (oneAnswer (s .spline) x) 0 (λ z. omega (arith, same, above, z)) in
+      let no : eqb number 0 ≡ false = ne-eqb number 0 (λ e. omega (arith, n, above, e)) in
+      let no′ : eqb (oneAnswer (s .spline) x) 0 ≡ false = ne-eqb (oneAnswer (s .spline) x) 0 (λ e. omega (arith, same, above, e)) in
       record {
         the-number = n ∙ same;
-        the-value = λ z. absurd (let q : ⊥ = omega (arith, n, above, z) in q);
-        the-gradient = λ z. absurd (let q : ⊥ = omega (arith, n, above, z) in q);
-        is-outside = o ∙ ap (λ (t : Bool). t && s .outside x) (sym no);
-        one-digit = rw n (refusal-digit refusal);
-        four-parts = ap length z;
+        the-value = w ∙ ap (λ (t : Bool). cond t (s .spline .value q) f0) (sym no);
+        the-gradient = z ∙ ap (λ (t : Bool). cond t (gradient (s .spline) q) zeros) (sym no);
+        is-outside = o ∙ ap (λ (t : Bool). t && s .outside x) (sym no′);
       }
+
+-- ---- what a reply says
+
+module _ {s : Surface} {x : List Float} {number : ℕ} {value : Float} {outside : Bool} {parts : List Float} (r : Replied s x number value outside parts) where
+  pub four-parts : length parts ≡ 4
+  four-parts = ap length (r .the-gradient) ∙ go (eqb number 0)
+    where
+      go : (t : Bool) → length (cond t (gradient (s .spline) (query (s .spline .axes) x 1 0)) zeros) ≡ 4
+      go true = refl
+      go false = refl
+
+  pub replied-value : number ≡ 0 → value ≡ askedValue s x
+  replied-value z = r .the-value ∙ ap (λ (t : Bool). cond t (askedValue s x) f0) (eq-eqb number 0 z)
+
+  pub replied-gradient : number ≡ 0 → take (s .spline .axes) parts ≡ askedGradient s x
+  replied-gradient z =
+      ap (take (s .spline .axes)) (r .the-gradient ∙ ap (λ (t : Bool). cond t (gradient (s .spline) (query (s .spline .axes) x 1 0)) zeros) (eq-eqb number 0 z))
 
 -- what an answered query says of the map, whose checks have passed, and of its length
 asked : (s : Spline) → Positive (s .checks) → (x : List Float) → oneAnswer s x ≡ 0 → (firstRefusal (s .checks) ≡ 0) × (length x ≡ s .axes)

@@ -3,6 +3,7 @@ ghost use mathlib.Core.Path.{_≡_};
 ghost use mathlib.Core.Bool.{false};
 ghost use lib.Ieee.{binary64};
 ghost use Rattle.shape.specs.Refusal.{refusalNumber};
+ghost use Rattle.multibspline.specs.Numbers.{f0};
 ghost use Rattle.evaluation.specs.Axes.{zeros};
 ghost use Rattle.regular_map.specs.Records as Regular;
 ghost use Rattle.rectilinear_map.specs.Records as Rectilinear;
@@ -17,7 +18,7 @@ use rectilinear_weights::Ghost;
 use regular_map::MultiBsplineRegular;
 use shape::Refusal;
 
-// The number of a query; where it is 0, the value and the gradient; whether it counts as outside.
+// The number of a query; the value and the gradient, zeros where it is refused; whether it counts as outside.
 pub struct Reply {
     pub number: u64,
     pub value: f64,
@@ -26,7 +27,7 @@ pub struct Reply {
 }
 
 fn refused(refusal: Refusal) -> Reply
-    ensures { λ r. ⌜ (r .number ≡ refusalNumber refusal) × (r .outside ≡ false) × (r .parts ≡ zeros) ⌝ }
+    ensures { λ r. ⌜ (r .number ≡ refusalNumber refusal) × (r .value ≡ f0) × (r .outside ≡ false) × (r .parts ≡ zeros) ⌝ }
 {
     Reply {
         number: refusal.number(),
