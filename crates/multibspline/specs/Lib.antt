@@ -1,3 +1,4 @@
 pub mod Numbers
 pub mod Thomas
 pub mod Line
+pub mod Total
