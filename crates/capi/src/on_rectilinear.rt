@@ -7,7 +7,7 @@ ghost use Rattle.evaluation.specs.Axes.{query};
 ghost use Rattle.evaluation.specs.Spline.{oneAnswer};
 ghost use Rattle.evaluation.specs.Batch.{gradientStep, ValueBatch, GradientBatch};
 ghost use Rattle.rectilinear.specs.Fit.{RectilinearFitted};
-ghost use Rattle.rectilinear_map.specs.Map.{mapOf};
+ghost use Rattle.rectilinear_map.specs.Records.{mapOf};
 ghost use Rattle.rectilinear_blocks.specs.Eval.{mapAnswer, gridAnswer};
 ghost use Rattle.capi_parts.specs.Inputs.{lensOf, isOn};
 ghost use Rattle.capi_parts.specs.Outputs.{Wrote, Handed};

@@ -13,7 +13,8 @@ use Rattle.shape.specs.Checks.{Check, refuse, firstRefusal, shapeChecks, length
 use Rattle.shape.proofs.Checks.{length-passes, length-passed}
 use Rattle.shape.proofs.Accepted.{prefix-passed, accepted-append, usable}
 use Rattle.evaluation.specs.Axes.{query, zeros}
-use Rattle.evaluation.specs.Spline.{Spline, gradient, valuedNumber, valuedValue, oneAnswer, OneValue, OneGradient, batchAnswer, gradientBatchAnswer}
+use Rattle.evaluation.specs.Spline.{Spline, gradient, oneAnswer, OneValue, OneGradient, batchAnswer, gradientBatchAnswer}
+use Rattle.evaluation.specs.Records.{valuedNumber, valuedValue}
 use Rattle.evaluation.specs.Built.{BuiltFrom}
 use Rattle.evaluation.specs.Batch.{badAt, valueStep, gradientStep, ValueBatch, GradientBatch}
 use Rattle.evaluation.specs.declared.answers.Valued.{Valued}
@@ -28,7 +29,7 @@ use Rattle.rectilinear_blocks.specs.Eval.{gridAnswer, mapChecks, rectilinear}
 use Rattle.capi_parts.specs.Inputs.{lensOf, shapeOf, fourFrom}
 use Rattle.capi_parts.specs.Outputs.{Wrote, Handed}
 use Rattle.capi_parts.specs.Splines.{withSlopes}
-use Rattle.capi_parts.specs.Regular.{stepsOf, regularMap, readyChecks, regularChecks, regularSpline, fitChecks}
+use Rattle.capi_parts.specs.Regular.{stepsOf, regularMap, gridReadyChecks, regularChecks, regularSpline, fitChecks}
 use Rattle.capi_parts.specs.Rectilinear.{rectilinearMap, rectilinearSpline}
 use Rattle.capi_parts.proofs.Lens.{lens-used, four-lens}
 use Rattle.capi_parts.proofs.Guards.{refused-some, without}
@@ -39,11 +40,11 @@ twice : {A : Type 0} (b : Bool) (v z old : A) → cond b (cond b v z) old ≡ co
 twice true v z old = refl
 twice false v z old = refl
 
-pub wrote-value : (s : Spline) (x : List Float) {v : Valued} {expected n : ℕ} {old new : Float} → expected ≡ oneAnswer s x → OneValue s x v → Wrote (valuedNumber v) (valuedValue v) old n new
+pub wrote-value : (s : Spline) (x : List Float) {v : Valued} {expected n : ℕ} {old new : Float} → expected ≡ oneAnswer s x → OneValue s x (valuedNumber v) (valuedValue v) → Wrote (valuedNumber v) (valuedValue v) old n new
     → Wrote expected (s .value (query (s .axes) x 1 0)) old n new
 wrote-value s x {old = old} e w p = record {
   answers = p .answers ∙ w .answers ∙ sym e;
-  leaves = p .leaves ∙ rw (w .value, w .answers, e) (twice (eqb (oneAnswer s x) 0) (s .value (query (s .axes) x 1 0)) f0 old);
+  leaves = p .leaves ∙ rw (w .valued, w .answers, e) (twice (eqb (oneAnswer s x) 0) (s .value (query (s .axes) x 1 0)) f0 old);
 }
 
 module _ (s : Spline) (x slopes : List Float) (few : s .axes ≤ 4) (whole : length slopes ≡ s .axes) where
@@ -76,8 +77,8 @@ regular-map-is dims grid linear e b t = rw (e, b, t)
 
 -- ---- a regular map: the check of the grid's length passes
 
-module _ (dims : List ℕ) (grid : List Float) {k : ℕ} (told : k ≡ firstRefusal (readyChecks dims grid)) (z : k ≡ 0) where
-  ok : firstRefusal (readyChecks dims grid) ≡ 0
+module _ (dims : List ℕ) (grid : List Float) {k : ℕ} (told : k ≡ firstRefusal (gridReadyChecks dims grid)) (z : k ≡ 0) where
+  ok : firstRefusal (gridReadyChecks dims grid) ≡ 0
   ok = sym told ∙ z
 
   shape-ok : firstRefusal (shapeChecks (length dims) (lensOf dims)) ≡ 0
@@ -86,7 +87,7 @@ module _ (dims : List ℕ) (grid : List Float) {k : ℕ} (told : k ≡ firstRefu
   long : length grid ≡ 2 * length dims
   long = length-passed [] (2 * length dims) (length grid) (sym (accepted-append (length dims) (lensOf dims) shape-ok (lengthCheck (2 * length dims) (length grid))) ∙ ok) .0
 
-  dropped : (after : List Check) → firstRefusal (readyChecks dims grid ++ after) ≡ firstRefusal (shapeChecks (length dims) (lensOf dims) ++ after)
+  dropped : (after : List Check) → firstRefusal (gridReadyChecks dims grid ++ after) ≡ firstRefusal (shapeChecks (length dims) (lensOf dims) ++ after)
   dropped after = without (shapeChecks (length dims) (lensOf dims)) (lengthCheck (2 * length dims) (length grid)) after (length-passes after (2 * length dims) (length grid) long)
 
   pub at-most-four : length dims ≤ 4
@@ -101,9 +102,9 @@ module _ (dims : List ℕ) (grid : List Float) {k : ℕ} (told : k ≡ firstRefu
     unfolding oneAnswer
     regular-one x = dropped _
 
-    pub regular-value : (x : List Float) {v : Valued} {n : ℕ} {old new : Float} → OneValue (regular f m coefs) x v → Wrote (valuedNumber v) (valuedValue v) old n new
+    pub regular-value : (x : List Float) {v : Valued} {n : ℕ} {old new : Float} → OneValue (regular f m coefs) x (valuedNumber v) (valuedValue v) → Wrote (valuedNumber v) (valuedValue v) old n new
         → Wrote (oneAnswer (regularSpline f dims grid linear coefs) x) (regularSpline f dims grid linear coefs .value (query (length dims) x 1 0)) old n new
-    regular-value x {v} w p = wrote-value (regular f (regularMap dims grid linear) coefs) x (regular-one x) (subst (λ (m : RegularMap). OneValue (regular f m coefs) x v) e w) p
+    regular-value x {v} w p = wrote-value (regular f (regularMap dims grid linear) coefs) x (regular-one x) (subst (λ (m : RegularMap). OneValue (regular f m coefs) x (valuedNumber v) (valuedValue v)) e w) p
 
     pub regular-values : (xs out : List Float) {n : ℕ} {out′ : List Float} → ValueBatch (regular f m coefs) xs out n out′ → ValueBatch (regularSpline f dims grid linear coefs) xs out n out′
     unfolding batchAnswer badAt valueStep
@@ -127,7 +128,7 @@ module _ (dims : List ℕ) (grid : List Float) {k : ℕ} (told : k ≡ firstRefu
 
 -- ---- building from samples
 
-module _ (dims : List ℕ) (grid : List Float) {k : ℕ} (told : k ≡ firstRefusal (readyChecks dims grid)) (z : k ≡ 0) (samples coefs scratch : ℕ) where
+module _ (dims : List ℕ) (grid : List Float) {k : ℕ} (told : k ≡ firstRefusal (gridReadyChecks dims grid)) (z : k ≡ 0) (samples coefs scratch : ℕ) where
   pub fit-dropped : firstRefusal (fitChecks dims grid samples coefs scratch) ≡ firstRefusal (regularFitChecks (length dims) (lensOf dims) samples coefs scratch)
   unfolding regularFitChecks
   fit-dropped = dropped dims grid told z _
@@ -161,9 +162,9 @@ module _ (dims : List ℕ) (grid : List Float) {n : ℕ} (told : n ≡ gridAnswe
   rectilinear-few z = usable (length dims) (lensOf dims) (four-lens dims) (prefix-passed (shapeChecks (length dims) (lensOf dims)) _ (sym told ∙ z)) .at-most-four
 
 module _ (f : Format) (dims : List ℕ) (grid : List Float) (linear : Bool) (coefs : List Float) (m : RectilinearMap) (e : m ≡ rectilinearMap f dims grid linear) where
-  pub rectilinear-value : (x : List Float) {v : Valued} {n : ℕ} {old new : Float} → OneValue (rectilinear f m grid coefs) x v → Wrote (valuedNumber v) (valuedValue v) old n new
+  pub rectilinear-value : (x : List Float) {v : Valued} {n : ℕ} {old new : Float} → OneValue (rectilinear f m grid coefs) x (valuedNumber v) (valuedValue v) → Wrote (valuedNumber v) (valuedValue v) old n new
       → Wrote (oneAnswer (rectilinearSpline f dims grid linear coefs) x) (rectilinearSpline f dims grid linear coefs .value (query (length dims) x 1 0)) old n new
-  rectilinear-value x {v} w p = wrote-value (rectilinearSpline f dims grid linear coefs) x refl (subst (λ (m : RectilinearMap). OneValue (rectilinear f m grid coefs) x v) e w) p
+  rectilinear-value x {v} w p = wrote-value (rectilinearSpline f dims grid linear coefs) x refl (subst (λ (m : RectilinearMap). OneValue (rectilinear f m grid coefs) x (valuedNumber v) (valuedValue v)) e w) p
 
   pub rectilinear-values : (xs out : List Float) {n : ℕ} {out′ : List Float} → ValueBatch (rectilinear f m grid coefs) xs out n out′ → ValueBatch (rectilinearSpline f dims grid linear coefs) xs out n out′
   rectilinear-values xs out {n} {out′} w = subst (λ (m : RectilinearMap). ValueBatch (rectilinear f m grid coefs) xs out n out′) e w

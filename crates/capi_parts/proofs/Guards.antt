@@ -22,12 +22,13 @@ use Rattle.shape.proofs.Checks.{length-fails, length-passes}
 use Rattle.ledger.proofs.Stages.{refusal-some, none-refuse}
 use Rattle.evaluation.specs.declared.answers.Valued.{Valued}
 use Rattle.evaluation.specs.declared.answers.Valued.the-variants as Values
-use Rattle.evaluation.specs.Spline.{Spline, valuedNumber, valuedValue, oneAnswer, batchAnswer, gradientBatchAnswer}
+use Rattle.evaluation.specs.Spline.{Spline, oneAnswer, batchAnswer, gradientBatchAnswer}
+use Rattle.evaluation.specs.Records.{valuedNumber, valuedValue}
 use Rattle.evaluation.specs.Batch.{Batch, ValueBatch, GradientBatch}
 use Rattle.capi_parts.specs.Inputs.{lensOf}
 use Rattle.capi_parts.specs.Outputs.{Wrote}
 use Rattle.capi_parts.specs.Splines.{withSlopes}
-use Rattle.capi_parts.specs.Regular.{readyChecks}
+use Rattle.capi_parts.specs.Regular.{gridReadyChecks}
 
 -- ---- refused
 
@@ -88,17 +89,17 @@ module _ {v : Valued} {old : Float} where
 -- ---- the shape, then the length of a regular grid
 
 module _ (dims : List ℕ) (grid : List Float) where
-  pub ready-shape : (r : Refusal) → refusalNumber r ≡ firstRefusal (shapeChecks (length dims) (lensOf dims)) → refusalNumber r ≡ firstRefusal (readyChecks dims grid)
+  pub ready-shape : (r : Refusal) → refusalNumber r ≡ firstRefusal (shapeChecks (length dims) (lensOf dims)) → refusalNumber r ≡ firstRefusal (gridReadyChecks dims grid)
   ready-shape r e = refusal-append r (shapeChecks (length dims) (lensOf dims)) (lengthCheck (2 * length dims) (length grid)) e
 
   module _ (ok : firstRefusal (shapeChecks (length dims) (lensOf dims)) ≡ 0) where
-    after-shape : firstRefusal (readyChecks dims grid) ≡ firstRefusal (lengthCheck (2 * length dims) (length grid))
+    after-shape : firstRefusal (gridReadyChecks dims grid) ≡ firstRefusal (lengthCheck (2 * length dims) (length grid))
     after-shape = accepted-append (length dims) (lensOf dims) ok (lengthCheck (2 * length dims) (length grid))
 
-    pub ready-length : (length grid ≡ 2 * length dims → ⊥) → _≡_ {A = ℕ} 2 (firstRefusal (readyChecks dims grid))
+    pub ready-length : (length grid ≡ 2 * length dims → ⊥) → _≡_ {A = ℕ} 2 (firstRefusal (gridReadyChecks dims grid))
     ready-length h = length-fails [] (2 * length dims) (length grid) h ∙ sym after-shape
 
-    pub ready-passed : length grid ≡ 2 * length dims → _≡_ {A = ℕ} 0 (firstRefusal (readyChecks dims grid))
+    pub ready-passed : length grid ≡ 2 * length dims → _≡_ {A = ℕ} 0 (firstRefusal (gridReadyChecks dims grid))
     ready-passed h = sym (after-shape ∙ length-passes [] (2 * length dims) (length grid) h ∙ none-refuse)
 
 -- ---- a buffer of another length than the axis count: the checks of the map, else 2

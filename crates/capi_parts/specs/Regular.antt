@@ -30,13 +30,13 @@ regularMap dims grid linear = record {
 }
 
 -- the shape, then a start and a step for each axis
-abbrev pub readyChecks : List ℕ → List Float → List Check
-readyChecks dims grid = shapeChecks (length dims) (lensOf dims) ++ lengthCheck (2 * length dims) (length grid)
+abbrev pub gridReadyChecks : List ℕ → List Float → List Check
+gridReadyChecks dims grid = shapeChecks (length dims) (lensOf dims) ++ lengthCheck (2 * length dims) (length grid)
 
 -- what every call that evaluates the map checks: then the coefficients, then the steps
 abbrev pub regularChecks : List ℕ → List Float → ℕ → List Check
 regularChecks dims grid coefs =
-    readyChecks dims grid ++ (lengthCheck (size (take (length dims) (lensOf dims))) coefs ++ refuse 5 (anyStepBad (take (length dims) (stepsOf dims grid))) ∷ [])
+    gridReadyChecks dims grid ++ (lengthCheck (size (take (length dims) (lensOf dims))) coefs ++ refuse 5 (anyStepBad (take (length dims) (stepsOf dims grid))) ∷ [])
 
 abbrev pub regularSpline : Format → List ℕ → List Float → Bool → List Float → Spline
 regularSpline f dims grid linear coeffs = record {

@@ -5,12 +5,12 @@ ghost use lib.ListN.{length};
 ghost use lib.Ieee.{binary64};
 ghost use Rattle.shape.specs.Checks.{firstRefusal};
 ghost use Rattle.shape.specs.Refusal.{answerNumber};
-ghost use Rattle.regular_map.specs.Map as Regular;
-ghost use Rattle.rectilinear_map.specs.Map.{mapOf};
+ghost use Rattle.regular_map.specs.Records as Regular;
+ghost use Rattle.rectilinear_map.specs.Records.{mapOf};
 ghost use Rattle.rectilinear_blocks.specs.Eval.{gridAnswer};
 ghost use Rattle.capi_parts.specs.Inputs.{lensOf, isOn};
 ghost use Rattle.capi_parts.specs.Outputs.{Handed};
-ghost use Rattle.capi_parts.specs.Regular.{readyChecks, regularMap};
+ghost use Rattle.capi_parts.specs.Regular.{gridReadyChecks, regularMap};
 ghost use Rattle.capi_parts.specs.Rectilinear.{rectilinearMap};
 use crate::inputs::four_from;
 use crate::inputs::shape_of;
@@ -22,7 +22,7 @@ use shape::Refusal;
 
 // The shape, then the length of a regular grid.
 pub fn check_grid(dims: &[usize], grid: &[f64]) -> Answer
-    ensures { λ r. ⌜ answerNumber r ≡ firstRefusal (readyChecks (now (dims .entry)) (now (grid .entry))) ⌝ }
+    ensures { λ r. ⌜ answerNumber r ≡ firstRefusal (gridReadyChecks (now (dims .entry)) (now (grid .entry))) ⌝ }
 {
     let shape = shape_of(dims);
     if let Answer::Refused(refusal) = shape.check() {

@@ -7,7 +7,7 @@ ghost use lib.Ieee.{nan};
 ghost use lib.ListN.{length, getD};
 ghost use Rattle.shape.specs.Cells.{put};
 ghost use Rattle.shape.specs.Refusal.{answerNumber};
-ghost use Rattle.evaluation.specs.Spline.{valuedNumber, valuedValue};
+ghost use Rattle.evaluation.specs.Records.{valuedNumber, valuedValue};
 ghost use Rattle.capi_parts.specs.Outputs.{Wrote};
 use evaluation::Gradient;
 use evaluation::Valued;

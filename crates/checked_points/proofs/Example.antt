@@ -5,18 +5,17 @@ use mathlib.Core.List.{List, [], _∷_, _++_}
 use Prim.Native.Nat.{ℕ}
 use lib.ListN.{replicate}
 use lib.Ieee.{lt, add, sub, mul, div, ofInt, ofBits, toBits}
-use Rattle.shape.specs.Below.{anyBelow}
+use Rattle.shape.specs.Below.{anyBelow, sumBelow}
 use Rattle.shape.specs.Shape.{product, firstCell, lineOf}
 use Rattle.shape.specs.Fit.{solveLine, solveLines, fitAfter}
-use Rattle.shape.specs.Checks.{firstRefusal, anyShort, shapeAccepted}
-use Rattle.shape.specs.Sizes.{strideOf}
+use Rattle.shape.specs.Checks.{firstRefusal, anyShort}
 use Rattle.interp_math.specs.Sum.{mulAdd, dot4, summed, gradientPart}
-use Rattle.evaluation.specs.Axes.{inUse, query}
+use Rattle.evaluation.specs.Axes.{inUse, query, firstOver}
 use Rattle.evaluation.specs.Spline.{oneAnswer}
 use Rattle.regular_weights.specs.Place.{getLoc, locOf, pastOrigin}
 use Rattle.regular_weights.specs.Weights.{cubicBsplineWeights, cubicBsplineWeightDerivatives, interpWeights, spanDerivatives, scaled, interpWeightDerivatives}
 use Rattle.regular_map.specs.Map.{made}
-use Rattle.regular_blocks.specs.Eval.{locOn, firstOn, weightsOn, slopesOn, valueAt, partAt, refuses}
+use Rattle.regular_blocks.specs.Eval.{locOn, weightsOn, slopesOn, valueAt, partAt, refuses}
 use Rattle.regular_blocks.specs.Checks.{anyStepBad}
 use Rattle.float_text.specs.Digits.{digitOf, letterOf, numberFrom, digitsOf}
 use Rattle.float_text.specs.Bits.{bitsIn, bitsText, floatIn, floatText}
@@ -60,5 +59,5 @@ output =
     ++ row (byte 84 ∷ byte 49 ∷ byte 48 ∷ []))
 
 pub example : program false input ≡ output
-unfolding input output row byte zero one program Program.first Program.shaped Program.shapeNumber Program.second Program.third Program.fitted Program.queries lines fields floatsIn rowIn rest decimalIn areDecimals decimalsOf isByte headIn digitOf letterOf numberFrom digitsOf bitsIn bitsText floatIn floatText floatsText widthOf countText mapLine answerLine totalLine anyBelow regularAxisOutside rowLength mapNumber surface made anyStepBad inUse query oneAnswer getLoc locOf pastOrigin lt valueAt partAt refuses firstOn locOn weightsOn slopesOn gradientPart summed dot4 mulAdd interpWeights interpWeightDerivatives spanDerivatives scaled cubicBsplineWeights cubicBsplineWeightDerivatives strideOf shapeAccepted firstRefusal anyShort product firstCell lineOf solveLine solveLines fitAfter add sub mul div ofInt ofBits toBits
+unfolding input output row byte zero one program Program.first Program.shaped Program.shapeNumber Program.second Program.third Program.fitted Program.queries lines fields floatsIn rowIn rest decimalIn areDecimals decimalsOf isByte headIn digitOf letterOf numberFrom digitsOf bitsIn bitsText floatIn floatText floatsText widthOf countText mapLine answerLine totalLine anyBelow regularAxisOutside rowLength mapNumber surface made anyStepBad inUse query oneAnswer getLoc locOf pastOrigin lt valueAt partAt refuses firstOver sumBelow locOn weightsOn slopesOn gradientPart summed dot4 mulAdd interpWeights interpWeightDerivatives spanDerivatives scaled cubicBsplineWeights cubicBsplineWeightDerivatives firstRefusal anyShort product firstCell lineOf solveLine solveLines fitAfter add sub mul div ofInt ofBits toBits
 example = refl

@@ -14,10 +14,10 @@ use lib.ListN.{replicate}
 use lib.Ieee.{Float, fin, binary64, lt, add, sub, mul, div, neg, ofInt, ofBits}
 use Rattle.shape.specs.Shape.{product, longest, stride, first, firstCell, lineOf}
 use Rattle.shape.specs.Fit.{solveLine, solveLines, fitAfter}
-use Rattle.shape.specs.Checks.{firstRefusal, anyShort, shapeAccepted}
-use Rattle.shape.specs.Sizes.{strideOf}
+use Rattle.shape.specs.Checks.{firstRefusal}
 use Rattle.book.specs.LineCall.{Call}
-use Rattle.shape.specs.Below.{allBelow}
+use Rattle.shape.specs.Below.{allBelow, sumBelow}
+use Rattle.evaluation.specs.Axes.{firstOver}
 use Rattle.book.specs.Book.{Book, isSolved, lowerSolved, isDue, bookChecks, bookCall, bookAnswers}
 use Rattle.interp_math.specs.Sum.{mulAdd, dot4, summed, gradientPart}
 use Rattle.multibspline.specs.Numbers.{f0, f1, f2, f3, f4}
@@ -29,7 +29,7 @@ use Rattle.regular_weights.specs.declared.place.Loc as Cells
 use Rattle.regular_weights.specs.declared.place.Loc.the-variants as Cell
 use Rattle.regular.specs.Fit.{regularFit}
 use Rattle.regular_blocks.specs.Map.{RegularMap}
-use Rattle.regular_blocks.specs.Eval.{locOn, firstOn, weightsOn, slopesOn, partAt}
+use Rattle.regular_blocks.specs.Eval.{locOn, weightsOn, slopesOn, partAt}
 use Rattle.knots.specs.Knots.{countBelow}
 use Rattle.knots.specs.Place as Rectilinear
 use Rattle.knots.specs.Place.{loc}
@@ -112,5 +112,5 @@ pub points :
     ∷ due false
     ∷ floats (f0 ∷ f0 ∷ f0 ∷ f0 ∷ [])
     ∷ []
-unfolding table at5 f8 uneven unequal cube four slope call solved Regular.getLoc locOf pastOrigin Rectilinear.getLoc Rectilinear.locOf countBelow lt partAt firstOn locOn weightsOn slopesOn gradientPart summed dot4 mulAdd interpWeights interpWeightDerivatives spanDerivatives scaled cubicBsplineWeights cubicBsplineWeightDerivatives lowLinearizedBoundaryWeights lowLinearizedBoundaryWeightDerivatives foldLow strideOf shapeAccepted firstRefusal anyShort product longest firstCell lineOf solveLine solveLines fitAfter bookAnswers bookChecks bookCall isDue lowerSolved isSolved allBelow add sub mul div neg ofInt ofBits
+unfolding table at5 f8 uneven unequal cube four slope call solved Regular.getLoc locOf pastOrigin Rectilinear.getLoc Rectilinear.locOf countBelow lt partAt firstOver sumBelow locOn weightsOn slopesOn gradientPart summed dot4 mulAdd interpWeights interpWeightDerivatives spanDerivatives scaled cubicBsplineWeights cubicBsplineWeightDerivatives lowLinearizedBoundaryWeights lowLinearizedBoundaryWeightDerivatives foldLow firstRefusal product longest firstCell lineOf solveLine solveLines fitAfter bookAnswers bookChecks bookCall isDue lowerSolved isSolved allBelow add sub mul div neg ofInt ofBits
 points = refl

@@ -13,7 +13,7 @@ use Rattle.shape.proofs.Cells.{length-put, from-in, put-other, put-ext}
 use Rattle.interp_math.specs.Sum.{summed, gradientPart}
 use Rattle.interp_math.proofs.Four.{four}
 use Rattle.interp_math.proofs.Sums.{summed-ext}
-use Rattle.evaluation.specs.Axes.{RowsOn}
+use Rattle.evaluation.specs.Axes.{rows, RowsOn}
 use Rattle.evaluation.specs.Batch.{written}
 use Rattle.evaluation.specs.Block.{rowAt, withRow, weightsOf, Firsts}
 use Rattle.evaluation.proofs.Batches.{written-same}
@@ -56,12 +56,16 @@ weights-on {count} {row} rows cap k few each = record { four = refl; at = at }
     at (suc (suc (suc (suc a)))) h = absurd (let q : ⊥ = omega arith in q)
 
 -- over one axis, the part of the gradient is the sum by the slopes
-pub slope-alone : (f : Format) (coefs : List Float) (strides : List ℕ) (weights slopes sums : List (List Float)) (first : ℕ) → 0 < length weights → getD sums 0 [] ≡ getD slopes 0 []
+slope-alone : (f : Format) (coefs : List Float) (strides : List ℕ) (weights slopes sums : List (List Float)) (first : ℕ) → 0 < length weights → getD sums 0 [] ≡ getD slopes 0 []
     → summed f coefs strides sums 1 first ≡ gradientPart f coefs strides weights slopes 1 first 0
 unfolding gradientPart
 slope-alone f coefs strides weights slopes sums first some e =
     summed-ext f coefs strides strides sums _ 1 first (λ l h. refl)
     (λ l h. let z : l ≡ 0 = omega arith in rw z (e ∙ sym (getD-set-same weights 0 (getD slopes 0 []) [] some)))
+
+pub slope-sum : (f : Format) (coefs : List Float) (ss : List ℕ) (first count : ℕ) (weight slope : ℕ → List Float) {ds : List (List Float)} → count ≡ 1 → RowsOn count slope ds
+    → summed f coefs ss ds count first ≡ gradientPart f coefs ss (rows count weight) (rows count slope) count first 0
+slope-sum f coefs ss first count weight slope {ds} one d = let own = d .at 0 (omega arith) in rw one (slope-alone f coefs ss (rows 1 weight) (rows 1 slope) ds first (omega arith) own)
 
 -- ---- the first coefficients
 

@@ -1,28 +1,31 @@
 -- One entry an axis: reading it, and what is worked out from the rows of the axes in use alone. Assumes nothing.
 use mathlib.Core.Path.{_≡_, refl, sym, _∙_}
-use mathlib.Core.Bool.{Bool, true, false}
+use mathlib.Core.Bool.{Bool, true, false, cond}
 use mathlib.Core.List.{List, []}
 use Prim.Native.Nat.{ℕ, zero, suc, _+_, _-_, _*_, _≤_, _<_}
 use native.Mathlib.Omega.{arith}
-use lib.Dec.{eqb}
-use lib.ListN.{getD, set}
+use lib.Dec.{eqb, ltb}
+use lib.ListN.{getD, set, take}
 use lib.Seq.{getD-set-same, getD-set-other}
 use lib.Ieee.{Float, nan, Format}
 use borrow.Author.Tests.{lt-ltb, eqb-true, eqb-false}
-use Rattle.shape.specs.Sizes.{strideOf}
-use Rattle.shape.proofs.Accepted.{usable-accepted, stride-is}
+use Rattle.shape.specs.Below.{sumBelow}
+use Rattle.shape.specs.Shape.{stride}
 use Rattle.shape.proofs.Lengths.{product-end}
 use Rattle.interp_math.specs.Sum.{summed, gradientPart}
 use Rattle.interp_math.proofs.Sums.{summed-ext}
 use Rattle.evaluation.specs.Axes.{perAxis, query, rows, zeros, strides, Ready, Reaches, RowsOn}
 
--- entry k, where axis k is in use
-pub axis-at : {A : Type 0} (none d : A) (count : ℕ) (entry : ℕ → A) (k : ℕ) → k < count → count ≤ 4 → getD (perAxis none count entry) k d ≡ entry k
-axis-at none d count entry zero h few = rw (lt-ltb 0 count h)
-axis-at none d count entry (suc zero) h few = rw (lt-ltb 1 count h)
-axis-at none d count entry (suc (suc zero)) h few = rw (lt-ltb 2 count h)
-axis-at none d count entry (suc (suc (suc zero))) h few = rw (lt-ltb 3 count h)
-axis-at none d count entry (suc (suc (suc (suc k)))) h few = absurd (omega (arith, h, few))
+-- entry k, and what it is where axis k is in use
+pub entry-at : {A : Type 0} (unused d : A) (count : ℕ) (entry : ℕ → A) (k : ℕ) → k < 4 → getD (perAxis unused count entry) k d ≡ cond (ltb k count) (entry k) unused
+entry-at unused d count entry zero h = refl
+entry-at unused d count entry (suc zero) h = refl
+entry-at unused d count entry (suc (suc zero)) h = refl
+entry-at unused d count entry (suc (suc (suc zero))) h = refl
+entry-at unused d count entry (suc (suc (suc (suc k)))) h = absurd (omega (arith, h))
+
+pub axis-at : {A : Type 0} (unused d : A) (count : ℕ) (entry : ℕ → A) (k : ℕ) → k < count → count ≤ 4 → getD (perAxis unused count entry) k d ≡ entry k
+axis-at unused d count entry k h few = entry-at unused d count entry k (omega arith) ∙ rw (lt-ltb k count h)
 
 -- coordinate k of a query
 pub query-at : (count : ℕ) (xs : List Float) (n i k : ℕ) → k < count → count ≤ 4 → getD (query count xs n i) k nan ≡ getD xs (k * n + i) nan
@@ -31,25 +34,30 @@ query-at count xs n i k h few = axis-at _ nan count (λ a. getD xs (a * n + i) n
 
 -- ---- strides
 
-pub stride-at : (count : ℕ) (lens : List ℕ) {ss : List ℕ} (a : ℕ) → ss ≡ strides count lens → a < 4 → getD ss a 0 ≡ strideOf count lens a
-stride-at count lens zero e h = rw e
-stride-at count lens (suc zero) e h = rw e
-stride-at count lens (suc (suc zero)) e h = rw e
-stride-at count lens (suc (suc (suc zero))) e h = rw e
-stride-at count lens (suc (suc (suc (suc a)))) e h = absurd (omega (arith, h))
+pub stride-at : {count : ℕ} {lens ss : List ℕ} (a : ℕ) → Ready count lens ss → a < count → getD ss a 0 ≡ stride (take count lens) a
+stride-at {count} {lens} a r h = rw (r .strides-are) (axis-at 0 0 count (stride (take count lens)) a h (r .shape .at-most-four))
+
+-- all of them together: unused ones are 0
+sum-all : (count : ℕ) (lens : List ℕ) → count ≤ 4
+    → getD (strides count lens) 0 0 + getD (strides count lens) 1 0 + getD (strides count lens) 2 0 + getD (strides count lens) 3 0 ≡ sumBelow (stride (take count lens)) count
+unfolding sumBelow
+sum-all zero lens h = refl
+sum-all (suc zero) lens h = omega arith
+sum-all (suc (suc zero)) lens h = omega arith
+sum-all (suc (suc (suc zero))) lens h = omega arith
+sum-all (suc (suc (suc (suc zero)))) lens h = omega arith
+sum-all (suc (suc (suc (suc (suc count))))) lens h = absurd (omega (arith, h))
 
 -- the coefficients that count, by the strides that were worked out
-pub within-by : {count : ℕ} {lens ss : List ℕ} {first coefs : ℕ} → ss ≡ strides count lens → Reaches count lens first coefs
+pub within-by : {count : ℕ} {lens ss : List ℕ} {first coefs : ℕ} → ss ≡ strides count lens → count ≤ 4 → Reaches count lens first coefs
     → first + 3 * (getD ss 0 0 + getD ss 1 0 + getD ss 2 0 + getD ss 3 0) < coefs
-within-by e w = rw e (w .within)
+within-by {count} {lens} e few w = rw (e, sum-all count lens few) (w .within)
 
 -- two neighbours along the last axis stand side by side
 pub last-stride : {count : ℕ} {lens ss : List ℕ} → Ready count lens ss → getD ss (count - 1) 0 ≡ 1
 last-stride {count} {lens} {ss} r =
     let u = r .shape in
-    let a : count - 1 < count = omega (arith, u .some-axis) in
-    stride-at count lens (count - 1) (r .strides-are) (omega (arith, u .at-most-four))
-    ∙ stride-is count lens (usable-accepted count lens (r .four) u) (count - 1) a
+    stride-at (count - 1) r (omega (arith, u .some-axis))
     ∙ product-end lens count (suc (count - 1)) (omega (arith, r .four, u .at-most-four)) (omega arith)
 
 -- ---- rows

@@ -10,3 +10,4 @@ pub mod Striding
 pub mod Rows
 pub mod Weighed
 pub mod Singles
+pub mod InUse

@@ -19,8 +19,6 @@ use Rattle.shape.specs.declared.answers.Answer.{Answer}
 use Rattle.shape.specs.declared.answers.Answer.the-variants.{Accepted, Refused}
 use Rattle.shape.proofs.Accepted.{refusal-suc, refusal-append, passed-append}
 use Rattle.multibspline.specs.Numbers.{f0}
-use Rattle.evaluation.specs.declared.answers.Valued.{Valued}
-use Rattle.evaluation.specs.declared.answers.Valued.the-variants as Valued
 use Rattle.evaluation.specs.Axes.{zeros, query}
 use Rattle.evaluation.specs.Spline.{Spline, gradient, Answered, GradientAnswered, oneAnswer, OneValue, OneGradient, batchAnswer, gradientBatchAnswer}
 use Rattle.evaluation.specs.Batch.{written, badAt, valueStep, gradientStep}
@@ -31,11 +29,11 @@ use Rattle.evaluation.proofs.Batches.{written-same}
 -- ---- a query whose lengths are right
 
 module _ (s : Spline) (x : List Float) where
-  pub value-found : {v : Float} → s .refuses x ≡ false → v ≡ s .value x → Answered s x (Valued.Value v)
-  value-found ok e = record { answers = rw ok; value = rw ok e }
+  pub value-found : {v : Float} → s .refuses x ≡ false → v ≡ s .value x → Answered s x 0 v
+  value-found ok e = record { answers = rw ok; valued = rw ok e }
 
-  pub value-refused : s .refuses x ≡ true → Answered s x (Valued.Refused Refusals.Unrepresentable)
-  value-refused bad = record { answers = rw bad; value = rw bad }
+  pub value-refused : s .refuses x ≡ true → Answered s x 6 f0
+  value-refused bad = record { answers = rw bad; valued = rw bad }
 
   pub gradient-found : {ps : List Float} → s .refuses x ≡ false → ps ≡ gradient s x → GradientAnswered s x 0 ps
   gradient-found ok e = record { answers = rw ok; gradient = rw ok e }
@@ -106,8 +104,8 @@ module _ (s : Spline) (x : List Float) where
   refused-is : (r : Refusal) → refusalNumber r ≡ oneAnswer s x → eqb (oneAnswer s x) 0 ≡ false
   refused-is r e = ne-eqb (oneAnswer s x) 0 (λ z. omega (arith, refusal-suc r, e))
 
-  pub one-refused : (r : Refusal) → refusalNumber r ≡ oneAnswer s x → OneValue s x (Valued.Refused r)
-  one-refused r e = let b = refused-is r e in record { answers = e; value = rw b }
+  pub one-refused : (r : Refusal) → refusalNumber r ≡ oneAnswer s x → OneValue s x (refusalNumber r) f0
+  one-refused r e = let b : eqb (refusalNumber r) 0 ≡ false = rw e (refused-is r e) in record { answers = e; valued = rw b }
 
   pub one-gradient-refused : (r : Refusal) {answer : ℕ} {ps : List Float} → refusalNumber r ≡ oneAnswer s x → answer ≡ refusalNumber r → ps ≡ zeros → OneGradient s x answer ps
   one-gradient-refused r {answer} e ea ep =
@@ -135,10 +133,8 @@ module _ (s : Spline) (x : List Float) where
     unfolding firstRefusal last
     one-is h = one-passed ∙ rw (eq-eqb (length x) (s .axes) h)
 
-    pub one-answered : length x ≡ s .axes → {r : Valued} → Answered s (query (s .axes) x 1 0) r → OneValue s x r
-    one-answered h w =
-        let is = one-is h in
-        record { answers = w .answers ∙ sym is; value = w .value ∙ rw is (held (s .refuses (query (s .axes) x 1 0)) f0 _) }
+    pub one-answered : length x ≡ s .axes → {answer : ℕ} {v : Float} → Answered s (query (s .axes) x 1 0) answer v → OneValue s x answer v
+    one-answered h w = record { answers = w .answers ∙ sym (one-is h); valued = w .valued ∙ rw (w .answers) (held (s .refuses (query (s .axes) x 1 0)) f0 _) }
 
     pub one-gradient-answered : length x ≡ s .axes → {answer : ℕ} {ps : List Float} → GradientAnswered s (query (s .axes) x 1 0) answer ps → OneGradient s x answer ps
     one-gradient-answered h w =

@@ -7,8 +7,7 @@ use lib.ListN.{length, getD}
 use lib.Seq.{getD-set-same}
 use lib.Ieee.{Float, nan}
 use Rattle.shape.specs.Cells.{put}
-use Rattle.shape.specs.declared.answers.Refusal.the-variants.{Unrepresentable}
-use Rattle.evaluation.specs.declared.answers.Valued.the-variants.{Value, Refused}
+use Rattle.multibspline.specs.Numbers.{f0}
 use Rattle.evaluation.specs.Axes.{zeros, parts, query}
 use Rattle.evaluation.specs.Spline.{Spline, Answered, GradientAnswered}
 use Rattle.evaluation.specs.Batch.{written, badAt, valueStep, gradientStep}
@@ -25,13 +24,13 @@ single-parts (suc (suc (suc (suc zero)))) part h = refl
 single-parts (suc (suc (suc (suc (suc count))))) part h = absurd (omega (arith, h))
 
 module _ (s : Spline) (x : List Float) {out out′ : List Float} {r : ℕ} where
-  pub single-value : Block (badAt s x 1) (valueStep s x 1) 0 1 out r out′ → 0 < length out → 1 ≤ r → Answered s (query (s .axes) x 1 0) (Value (getD out′ 0 nan))
+  pub single-value : Block (badAt s x 1) (valueStep s x 1) 0 1 out r out′ → 0 < length out → 1 ≤ r → Answered s (query (s .axes) x 1 0) 0 (getD out′ 0 nan)
   unfolding badAt valueStep written
   single-value b some all =
       let e : r ≡ 1 = omega (arith, b .most) in
       value-found s _ (b .good 0 all) (ap (λ (o : List Float). getD o 0 nan) (rw e at (b .leaves)) ∙ getD-set-same out 0 _ nan some)
 
-  pub single-refused : Block (badAt s x 1) (valueStep s x 1) 0 1 out r out′ → r < 1 → Answered s (query (s .axes) x 1 0) (Refused Unrepresentable)
+  pub single-refused : Block (badAt s x 1) (valueStep s x 1) 0 1 out r out′ → r < 1 → Answered s (query (s .axes) x 1 0) 6 f0
   unfolding badAt
   single-refused b none = let e : r ≡ 0 = omega arith in value-refused s _ (rw e at (b .stops none))
 

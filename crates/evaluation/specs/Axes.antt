@@ -5,25 +5,26 @@ use mathlib.Core.Bool.{cond}
 use mathlib.Core.List.{List, [], _∷_}
 use Prim.Native.Nat.{ℕ, _+_, _*_, _<_}
 use lib.Dec.{ltb}
-use lib.ListN.{length, getD}
+use lib.ListN.{length, getD, take}
 use lib.Ieee.{Float, nan, Format}
-use Rattle.shape.specs.Sizes.{strideOf}
+use Rattle.shape.specs.Below.{sumBelow}
+use Rattle.shape.specs.Shape.{stride}
 use Rattle.shape.specs.Usable.{Usable}
 use Rattle.multibspline.specs.Numbers.{f0}
 use Rattle.interp_math.specs.Sum.{summed, gradientPart}
 
--- one entry an axis
+-- one entry an axis; `unused` for an axis not in use
 abbrev pub perAxis : {A : Type 0} → A → ℕ → (ℕ → A) → List A
-perAxis zero count entry =
-    cond (ltb 0 count) (entry 0) zero
-    ∷ cond (ltb 1 count) (entry 1) zero
-    ∷ cond (ltb 2 count) (entry 2) zero
-    ∷ cond (ltb 3 count) (entry 3) zero
+perAxis unused count entry =
+    cond (ltb 0 count) (entry 0) unused
+    ∷ cond (ltb 1 count) (entry 1) unused
+    ∷ cond (ltb 2 count) (entry 2) unused
+    ∷ cond (ltb 3 count) (entry 3) unused
     ∷ []
 
 -- those of a list; o is the element read past its end (never, in what is proved)
 unfoldable pub inUse : {A : Type 0} → A → A → ℕ → List A → List A
-inUse o zero count xs = perAxis zero count (λ a. getD xs a o)
+inUse o unused count xs = perAxis unused count (λ a. getD xs a o)
 
 abbrev pub zeros : List Float
 zeros = f0 ∷ f0 ∷ f0 ∷ f0 ∷ []
@@ -45,8 +46,13 @@ pub record RowsOn (count : ℕ) (row : ℕ → List Float) (table : List (List F
 abbrev pub parts : ℕ → (ℕ → Float) → List Float
 parts count part = perAxis f0 count part
 
+-- the strides of the axes
 abbrev pub strides : ℕ → List ℕ → List ℕ
-strides count lens = strideOf count lens 0 ∷ strideOf count lens 1 ∷ strideOf count lens 2 ∷ strideOf count lens 3 ∷ []
+strides count lens = perAxis 0 count (stride (take count lens))
+
+-- the first of the coefficients that count, over the first a axes: the sum of origin times stride
+unfoldable pub firstOver : List ℕ → (ℕ → ℕ) → ℕ → ℕ
+firstOver dims origin a = sumBelow (λ b. origin b * stride dims b) a
 
 -- what the functions that evaluate a query take for granted: an accepted shape, and its strides
 pub record Ready (count : ℕ) (lens ss : List ℕ) : Type 0 where
@@ -54,9 +60,9 @@ pub record Ready (count : ℕ) (lens ss : List ℕ) : Type 0 where
   pub four : length lens ≡ 4
   pub strides-are : ss ≡ strides count lens
 
--- the coefficients from `first` on that count lie within `coefs`
+-- the coefficients from `first` on that count lie within `coefs`: up to three strides further on each axis
 pub record Reaches (count : ℕ) (lens : List ℕ) (first coefs : ℕ) : Type 0 where
-  pub within : first + 3 * (strideOf count lens 0 + strideOf count lens 1 + strideOf count lens 2 + strideOf count lens 3) < coefs
+  pub within : first + 3 * sumBelow (stride (take count lens)) count < coefs
 
 -- from the first coefficient that counts, with a row of weights and one of slopes an axis: the value, and part k of the
 -- gradient

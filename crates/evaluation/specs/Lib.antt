@@ -4,3 +4,4 @@ pub mod Batch
 pub mod Total
 pub mod Built
 pub mod Block
+pub mod Records

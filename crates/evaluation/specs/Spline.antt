@@ -7,12 +7,9 @@ use Prim.Native.Nat.{ℕ, _*_, _%_}
 use lib.Dec.{eqb}
 use lib.ListN.{length}
 use lib.Ieee.{Float}
-use Rattle.shape.specs.Refusal.{refusalNumber}
 use Rattle.shape.specs.Checks.{Check, refuse, firstRefusal, lengthCheck}
 use Rattle.multibspline.specs.Numbers.{f0}
 use Rattle.evaluation.specs.Axes.{zeros, parts, query}
-use Rattle.evaluation.specs.declared.answers.Valued.{Valued}
-use Rattle.evaluation.specs.declared.answers.Valued.the-variants.{Value, Refused}
 
 -- a map as the calls that evaluate it see it
 pub record Spline : Type 0 where
@@ -31,17 +28,9 @@ gradient s x = parts (s .axes) (s .part x)
 
 -- ---- a query whose lengths are right: its figures, or 6
 
-abbrev pub valuedNumber : Valued → ℕ
-valuedNumber (Value v) = 0
-valuedNumber (Refused refusal) = refusalNumber refusal
-
-abbrev pub valuedValue : Valued → Float
-valuedValue (Value v) = v
-valuedValue (Refused refusal) = f0
-
-pub record Answered (s : Spline) (x : List Float) (r : Valued) : Type 0 where
-  pub answers : valuedNumber r ≡ cond (s .refuses x) 6 0
-  pub value : valuedValue r ≡ cond (s .refuses x) f0 (s .value x)
+pub record Answered (s : Spline) (x : List Float) (answer : ℕ) (value : Float) : Type 0 where
+  pub answers : answer ≡ cond (s .refuses x) 6 0
+  pub valued : value ≡ cond (s .refuses x) f0 (s .value x)
 
 pub record GradientAnswered (s : Spline) (x : List Float) (answer : ℕ) (parts : List Float) : Type 0 where
   pub answers : answer ≡ cond (s .refuses x) 6 0
@@ -53,9 +42,9 @@ unfoldable pub oneAnswer : Spline → List Float → ℕ
 oneAnswer s x = firstRefusal (s .checks ++ (lengthCheck (s .axes) (length x) ++ refuse 6 (s .refuses (query (s .axes) x 1 0)) ∷ []))
 
 -- its value, zero where it is refused
-pub record OneValue (s : Spline) (x : List Float) (r : Valued) : Type 0 where
-  pub answers : valuedNumber r ≡ oneAnswer s x
-  pub value : valuedValue r ≡ cond (eqb (oneAnswer s x) 0) (s .value (query (s .axes) x 1 0)) f0
+pub record OneValue (s : Spline) (x : List Float) (answer : ℕ) (value : Float) : Type 0 where
+  pub answers : answer ≡ oneAnswer s x
+  pub valued : value ≡ cond (eqb answer 0) (s .value (query (s .axes) x 1 0)) f0
 
 -- its gradient, zeros where it is refused
 pub record OneGradient (s : Spline) (x : List Float) (answer : ℕ) (parts : List Float) : Type 0 where

@@ -15,7 +15,7 @@ use Rattle.shape.proofs.Cells.{length-put, put-next, put-ext, from-in}
 use Rattle.shape.proofs.Fit.{Looks, length-solveLines, earlier}
 use Rattle.shape.proofs.Radix.{quot, rem, lineOf-cell, placeOf-cell}
 use Rattle.multibspline.specs.Thomas.{at}
-use Rattle.lanes.specs.Lanes.{Lanes, solveFrom, zeros, Uppers}
+use Rattle.lanes.specs.Lanes.{Lanes, solveFrom, zeroSamples, Uppers}
 use Rattle.lanes.proofs.From.{length-solveFrom, lines-from}
 
 -- ---- where they lie
@@ -183,12 +183,12 @@ module _ {g : ℕ → Float} {n : ℕ} {u₀ : List Float} (next : ℕ → Float
           rw (a, b) (goes k h)
 
 -- what is put there is what a line's elimination has, whatever its samples
-pub uppers-hold : (upper : (ℕ → Float) → ℕ → Float) (n : ℕ) (u₀ u : List Float) → ((y : ℕ → Float) (i : ℕ) → upper zeros i ≡ upper y i) → u ≡ put (from 0) (upper zeros) n u₀ → n ≤ length u₀ → Uppers upper n u
+pub uppers-hold : (upper : (ℕ → Float) → ℕ → Float) (n : ℕ) (u₀ u : List Float) → ((y : ℕ → Float) (i : ℕ) → upper zeroSamples i ≡ upper y i) → u ≡ put (from 0) (upper zeroSamples) n u₀ → n ≤ length u₀ → Uppers upper n u
 uppers-hold upper n u₀ u same e fits = record {
-  room = omega (arith, ap length e ∙ length-put (from 0) (upper zeros) n u₀);
+  room = omega (arith, ap length e ∙ length-put (from 0) (upper zeroSamples) n u₀);
   hold = (λ y i h.
       let a : 0 + i ≡ i = omega arith in
-      rw e (rw a at (from-in 0 (upper zeros) n u₀ nan i h (omega arith))) ∙ same y i);
+      rw e (rw a at (from-in 0 (upper zeroSamples) n u₀ nan i h (omega arith))) ∙ same y i);
 }
 
 -- ---- what an axis leaves in scratch
@@ -213,8 +213,8 @@ module _ (upper c : (ℕ → Float) → ℕ → Float) (n s total m : ℕ) (xs�
       rw (eb, e) (rw (on, place) at (earlier nan c n s hs looks (omega (arith, w .four-points)) xs₀ total (w .inside) cell (omega arith)))
 
   -- the upper numbers first, the last line after
-  pub axis-leaves : (b : ℕ) (ss₁ xs ss₂ : List Float) → ((y : ℕ → Float) (i : ℕ) → upper zeros i ≡ upper y i) → b ≡ firstCell n s (total - 1)
-      → ss₁ ≡ put (from 0) (upper zeros) n ss₀ → xs ≡ solveLines nan c n s total xs₀ → ss₂ ≡ put (from m) (line nan b s xs) n ss₁ → ss₂ ≡ lineLeaves nan upper c n s m (total - 1) xs₀ ss₀
+  pub axis-leaves : (b : ℕ) (ss₁ xs ss₂ : List Float) → ((y : ℕ → Float) (i : ℕ) → upper zeroSamples i ≡ upper y i) → b ≡ firstCell n s (total - 1)
+      → ss₁ ≡ put (from 0) (upper zeroSamples) n ss₀ → xs ≡ solveLines nan c n s total xs₀ → ss₂ ≡ put (from m) (line nan b s xs) n ss₁ → ss₂ ≡ lineLeaves nan upper c n s m (total - 1) xs₀ ss₀
   unfolding lineLeaves lineScratch
   axis-leaves b ss₁ xs ss₂ same eb e₁ e₂ e₃ =
       e₃ ∙ rw e₁ (put-ext (from m) _ _ n _ (last-line b xs eb e₂)

@@ -29,8 +29,8 @@ module _ {A : Type 0} (o : A) (solve : (ℕ → A) → ℕ → A) (n s first : �
   solveFrom (suc m) xs = solveLine o solve n s (first + m) (solveFrom m xs)
 
 -- samples of 0: what does not depend on the samples is taken from these
-abbrev pub zeros : ℕ → Float
-zeros i = f0
+abbrev pub zeroSamples : ℕ → Float
+zeroSamples i = f0
 
 -- u has the upper numbers of every line: they do not depend on its samples
 pub record Uppers (upper : (ℕ → Float) → ℕ → Float) (n : ℕ) (u : List Float) : Type 0 where

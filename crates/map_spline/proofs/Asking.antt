@@ -15,7 +15,8 @@ use Rattle.shape.specs.Usable.{Usable}
 use Rattle.shape.proofs.Accepted.{refusal-suc}
 use Rattle.multibspline.specs.Numbers.{f0}
 use Rattle.evaluation.specs.Axes.{zeros, query}
-use Rattle.evaluation.specs.Spline.{oneAnswer, gradient, valuedNumber, valuedValue, OneValue, OneGradient}
+use Rattle.evaluation.specs.Spline.{oneAnswer, gradient, OneValue, OneGradient}
+use Rattle.evaluation.specs.Records.{valuedNumber, valuedValue}
 use Rattle.evaluation.specs.declared.answers.Valued.{Valued}
 use Rattle.evaluation.specs.declared.answers.Valued.the-variants.{Value, Refused}
 use Rattle.regular_blocks.specs.Map.{RegularMap}
@@ -39,7 +40,7 @@ refusal-digit Refusal.NoSuchLine = lit< tt
 refusal-digit Refusal.AlreadySolved = lit< tt
 refusal-digit Refusal.NotDue = lit< tt
 
-module _ (s : Surface) (x : List Float) (v : Valued) (h : OneValue (s .spline) x v) where
+module _ (s : Surface) (x : List Float) (v : Valued) (h : OneValue (s .spline) x (valuedNumber v) (valuedValue v)) where
   module _ (value : Float) (told : v ≡ Value value) where
     accepted : oneAnswer (s .spline) x ≡ 0
     accepted = sym (h .answers) ∙ ap valuedNumber told
@@ -51,7 +52,7 @@ module _ (s : Surface) (x : List Float) (v : Valued) (h : OneValue (s .spline) x
         let yes′ : eqb answer 0 ≡ true = eq-eqb answer 0 (g .answers ∙ accepted) in
         record {
           the-number = sym accepted;
-          the-value = λ _. sym (ap valuedValue told) ∙ h .value ∙ ap (λ (t : Bool). cond t (s .spline .value q) f0) yes;
+          the-value = λ _. sym (ap valuedValue told) ∙ h .valued ∙ ap (λ (t : Bool). cond t (s .spline .value q) f0) (eq-eqb (valuedNumber v) 0 (ap valuedNumber told));
           the-gradient = λ _. ap (take (s .spline .axes)) (g .gradient ∙ ap (λ (t : Bool). cond t (gradient (s .spline) q) zeros) yes′);
           is-outside = o ∙ ap (λ (t : Bool). t && s .outside x) (sym yes);
           one-digit = lit< tt;
@@ -75,13 +76,13 @@ module _ (s : Surface) (x : List Float) (v : Valued) (h : OneValue (s .spline) x
 
 -- what an answered query says of the map
 pub regular-asked : (m : RegularMap) (coefs x : List Float) (v : Valued) (value : Float) → length (m .lens) ≡ 4 → length (m .steps) ≡ 4
-    → OneValue (regular binary64 m coefs) x v → v ≡ Value value → Usable (m .count) (m .lens) × (length x ≡ m .count)
+    → OneValue (regular binary64 m coefs) x (valuedNumber v) (valuedValue v) → v ≡ Value value → Usable (m .count) (m .lens) × (length x ≡ m .count)
 regular-asked m coefs x v value four four′ h told =
     let w = Regular.one-total binary64 m coefs x four four′ .0 (sym (h .answers) ∙ ap valuedNumber told) in
     (w .0 .shape, w .1)
 
 pub rectilinear-asked : (m : RectilinearMap) (grid coefs x : List Float) (v : Valued) (value : Float) → length (m .lens) ≡ 4
-    → OneValue (rectilinear binary64 m grid coefs) x v → v ≡ Value value → Gridded (m .count) (m .lens) grid × (length x ≡ m .count)
+    → OneValue (rectilinear binary64 m grid coefs) x (valuedNumber v) (valuedValue v) → v ≡ Value value → Gridded (m .count) (m .lens) grid × (length x ≡ m .count)
 rectilinear-asked m grid coefs x v value four h told =
     let w = Rectilinear.one-total binary64 m grid coefs x four .0 (sym (h .answers) ∙ ap valuedNumber told) in
     (w .0 .gridded, w .1)

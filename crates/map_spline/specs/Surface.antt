@@ -16,9 +16,11 @@ use Rattle.rectilinear.specs.Fit.{rectilinearFit}
 use Rattle.evaluation.specs.Axes.{query}
 use Rattle.evaluation.specs.Spline.{Spline, oneAnswer, gradient}
 use Rattle.regular_map.specs.Map as Regular
+use Rattle.regular_map.specs.Records as RegularRecord
 use Rattle.regular_blocks.specs.Map.{RegularMap}
 use Rattle.regular_blocks.specs.Checks.{anyStepBad, regular}
 use Rattle.rectilinear_map.specs.Map as Rectilinear
+use Rattle.rectilinear_map.specs.Records as RectilinearRecord
 use Rattle.rectilinear_blocks.specs.Map.{RectilinearMap}
 use Rattle.rectilinear_blocks.specs.Eval.{rectilinear}
 use Rattle.map_fields.specs.Head.{Head}
@@ -85,7 +87,7 @@ askedOutside s x = eqb (askedNumber s x) 0 && s .outside x
 -- the map that a record of the code stands for
 abbrev pub surfaceOf : Map → List Float → List Float → Surface
 surfaceOf m row coefs =
-    cond (m .regular) (regularSurface binary64 (Regular.mapOf (m .even)) coefs) (rectilinearSurface binary64 (Rectilinear.mapOf (m .uneven)) row coefs)
+    cond (m .regular) (regularSurface binary64 (RegularRecord.mapOf (m .even)) coefs) (rectilinearSurface binary64 (RectilinearRecord.mapOf (m .uneven)) row coefs)
 
 -- the shape is accepted, and the lengths of the buffers are right
 pub record Lent (count : ℕ) (lens : List ℕ) (wanted row samples coefs scratch : ℕ) : Type 0 where

@@ -12,7 +12,7 @@ use Rattle.shape.specs.Cells.{put, from, onLine, writeLine}
 use Rattle.shape.specs.Fit.{lineScratch}
 use Rattle.shape.proofs.Cells.{put-ext, from-unique, line-apart}
 use Rattle.shape.proofs.Scratch.{put-set, scratch-upper, scratch-right, scratch-next, scratch-over, scratch-ext, scratch-solved, length-scratch}
-use Rattle.multibspline.specs.Thomas.{Row, Reduced, at, withRow, reduce, forward, back, backAt, backStep, solution, solved, putDown}
+use Rattle.multibspline.specs.Thomas.{Row, Reduced, at, withReduced, reduce, forward, back, backAt, backStep, solution, solved, putDown}
 
 -- ---- the copy of the samples: cells below i are copied
 
@@ -47,18 +47,18 @@ pub record Eliminated (f : Format) (first : Reduced) (row : ℕ → Row) (n m : 
   pub rows : s ≡ lineScratch m (λ k. forward f first row k .upper) (λ k. forward f first row k .right) i s₀
 
 -- a row that is kept, by the row that it is
-pub row-kept : (f : Format) (m i : ℕ) (row row′ : Row) (before r : Reduced) (s s′ : List Float) → row ≡ row′ → r ≡ reduce f row before → s′ ≡ withRow m i r s → s′ ≡ withRow m i (reduce f row′ before) s
-row-kept f m i row row′ before r s s′ same er e = e ∙ ap (λ (q : Reduced). withRow m i q s) (er ∙ ap (λ (q : Row). reduce f q before) same)
+pub row-kept : (f : Format) (m i : ℕ) (row row′ : Row) (before r : Reduced) (s s′ : List Float) → row ≡ row′ → r ≡ reduce f row before → s′ ≡ withReduced m i r s → s′ ≡ withReduced m i (reduce f row′ before) s
+row-kept f m i row row′ before r s s′ same er e = e ∙ ap (λ (q : Reduced). withReduced m i q s) (er ∙ ap (λ (q : Row). reduce f q before) same)
 
 -- row 0 is set again
-elim-over : (f : Format) (first : Reduced) (row : ℕ → Row) (m : ℕ) (s s₀ : List Float) (i : ℕ) → 0 < i → i ≤ m → s₀ ≡ withRow m 0 first s
+elim-over : (f : Format) (first : Reduced) (row : ℕ → Row) (m : ℕ) (s s₀ : List Float) (i : ℕ) → 0 < i → i ≤ m → s₀ ≡ withReduced m 0 first s
     → lineScratch m (λ k. forward f first row k .upper) (λ k. forward f first row k .right) i s₀ ≡ lineScratch m (λ k. forward f first row k .upper) (λ k. forward f first row k .right) i s
 elim-over f first row m s s₀ i pos room e =
     let z : m + 0 ≡ m = omega arith in
     rw e (rw z (scratch-over m (λ k. forward f first row k .upper) (λ k. forward f first row k .right) i s (first .upper) (first .right) pos room))
 
 module _ {f : Format} {first : Reduced} {row : ℕ → Row} {n m : ℕ} where
-  pub elim-start : (s : List Float) {s₀ : List Float} → 0 < n → n ≤ m → s₀ ≡ withRow m 0 first s → Eliminated f first row n m s₀ s₀ 1 first
+  pub elim-start : (s : List Float) {s₀ : List Float} → 0 < n → n ≤ m → s₀ ≡ withReduced m 0 first s → Eliminated f first row n m s₀ s₀ 1 first
   unfolding lineScratch
   elim-start s {s₀} h room e = record {
     some = omega arith;
@@ -69,7 +69,7 @@ module _ {f : Format} {first : Reduced} {row : ℕ → Row} {n m : ℕ} where
   }
 
   pub elim-step : {s₀ s s′ : List Float} {i : ℕ} {r r′ : Reduced} → Eliminated f first row n m s₀ s i r → i < n → n ≤ m
-      → r′ ≡ reduce f (row i) r → s′ ≡ withRow m i r′ s
+      → r′ ≡ reduce f (row i) r → s′ ≡ withReduced m i r′ s
       → Eliminated f first row n m s₀ s′ (i + 1) r′
   elim-step {i = zero} e h room er new = absurd (omega (arith, e .some))
   elim-step {s₀} {s} {s′} {i = suc j} {r} {r′} e h room er new =
@@ -88,7 +88,7 @@ module _ {f : Format} {first : Reduced} {row : ℕ → Row} {n m : ℕ} where
   pub elim-last : {s₀ s : List Float} {i : ℕ} {r : Reduced} → Eliminated f first row n m s₀ s i r → n ≤ i → (k : ℕ) → k ≡ n - 1 → r ≡ forward f first row k
   elim-last {i} e h k ek = let same : i ≡ n = omega (arith, e .most) in rw (same, ← ek) at (e .here)
 
-  pub elim-done : (s : List Float) {s₀ s′ : List Float} {i : ℕ} {r : Reduced} → Eliminated f first row n m s₀ s′ i r → n ≤ i → n ≤ m → s₀ ≡ withRow m 0 first s
+  pub elim-done : (s : List Float) {s₀ s′ : List Float} {i : ℕ} {r : Reduced} → Eliminated f first row n m s₀ s′ i r → n ≤ i → n ≤ m → s₀ ≡ withReduced m 0 first s
       → s′ ≡ lineScratch m (λ k. forward f first row k .upper) (λ k. forward f first row k .right) n s
   elim-done s {s₀} {i = i} e h room e₀ = let same : i ≡ n = omega (arith, e .most) in rw same at (e .rows) ∙ elim-over f first row m s s₀ n (omega (arith, e .some)) room e₀
 
@@ -127,7 +127,7 @@ module _ (f : Format) (n : ℕ) (first first′ : Reduced) (row row′ : ℕ →
 module _ (f : Format) (first first′ : Reduced) (inner row : ℕ → Row) (last : Row) (n m : ℕ) (s₀ s₁ s₂ : List Float) (before : Reduced) (four : 4 ≤ n) (room : n ≤ m)
     (same-first : first ≡ first′) (same-row : (k : ℕ) → 0 < k → k < n - 1 → inner k ≡ row k) (same-last : last ≡ row (n - 1)) where
   pub elim-whole : before ≡ forward f first inner (n - 2) → s₁ ≡ lineScratch m (λ k. forward f first inner k .upper) (λ k. forward f first inner k .right) (n - 1) s₀
-      → s₂ ≡ withRow m (n - 1) (reduce f last before) s₁
+      → s₂ ≡ withReduced m (n - 1) (reduce f last before) s₁
       → s₂ ≡ lineScratch m (λ k. forward f first′ row k .upper) (λ k. forward f first′ row k .right) n s₀
   elim-whole eb e₁ e₂ =
       let a : n - 1 + 1 ≡ n = omega arith in

@@ -1,4 +1,5 @@
 pub mod Numbers
 pub mod Thomas
 pub mod Line
+pub mod Records
 pub mod Total

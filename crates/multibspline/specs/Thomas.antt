@@ -5,7 +5,6 @@ use mathlib.Core.List.{List}
 use lib.ListN.{getD, set}
 use lib.Ieee as Ieee
 use lib.Ieee.{Float, Format, nan}
-use Rattle.multibspline.specs.declared.Reduced as declared
 
 pub record Row : Type 0 where
   pub lower : Float
@@ -17,10 +16,6 @@ pub record Row : Type 0 where
 pub record Reduced : Type 0 where
   pub upper : Float
   pub right : Float
-
--- the code's record of it
-abbrev pub reducedOf : declared.Reduced → Reduced
-reducedOf r = record { upper = r .upper; right = r .right }
 
 -- a row, with the reduced row before it eliminated
 abbrev pub denom : Format → Row → Reduced → Float
@@ -61,8 +56,8 @@ abbrev pub at : List Float → ℕ → Float
 at scratch i = getD scratch i nan
 
 -- scratch with row i reduced
-abbrev pub withRow : ℕ → ℕ → Reduced → List Float → List Float
-withRow m i row scratch = set (set scratch i (row .upper)) (m + i) (row .right)
+abbrev pub withReduced : ℕ → ℕ → Reduced → List Float → List Float
+withReduced m i row scratch = set (set scratch i (row .upper)) (m + i) (row .right)
 
 -- x(i), from the reduced rows in scratch
 abbrev pub solved : Format → ℕ → ℕ → List Float → ℕ → Float

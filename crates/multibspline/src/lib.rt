@@ -10,7 +10,8 @@ ghost use Prim.Native.Nat.{ℕ, _+_, _-_, _*_, _≤_, _<_};
 ghost use lib.ListN.{length, set};
 ghost use lib.Ieee.{binary64, nan};
 ghost use Rattle.shape.specs.Cells.{put, from, onLine, line, writeLine};
-ghost use Rattle.multibspline.specs.Thomas.{Row, at, reduce, reducedOf, withRow, backStep, solved, putDown};
+ghost use Rattle.multibspline.specs.Thomas.{Row, at, reduce, withReduced, backStep, solved, putDown};
+ghost use Rattle.multibspline.specs.Records.{reducedOf};
 
 // The samples are copied.
 pub fn copy(vals: &[f64], coeffs: &mut [f64])
@@ -49,7 +50,7 @@ pub struct Reduced {
 // Row i is kept in scratch.
 pub fn keep_row(i: usize, m: usize, row: Reduced, scratch: &mut [f64])
     requires { ⌜ (i < m) × (m + i < length (now scratch)) ⌝ }
-    ensures { λ _. ⌜ now (scratch .exit) ≡ withRow m i (reducedOf «row») (now (scratch .entry)) ⌝ }
+    ensures { λ _. ⌜ now (scratch .exit) ≡ withReduced m i (reducedOf «row») (now (scratch .entry)) ⌝ }
 {
     scratch[i] = row.upper;
     scratch[m + i] = row.right;
@@ -68,7 +69,7 @@ pub fn eliminate(
 ) -> Reduced
     requires { ⌜ (i < m) × (m + i < length (now scratch)) ⌝ }
     ensures { λ r. ⌜ reducedOf r ≡ reduce binary64 (record { lower = lower; diag = diag; upper = upper; right = right }) (reducedOf «before») ⌝ }
-    ensures { λ r. ⌜ now (scratch .exit) ≡ withRow m i (reducedOf r) (now (scratch .entry)) ⌝ }
+    ensures { λ r. ⌜ now (scratch .exit) ≡ withReduced m i (reducedOf r) (now (scratch .entry)) ⌝ }
 {
     let denom = diag - lower * before.upper;
     let row = Reduced {

@@ -10,7 +10,7 @@ ghost use Rattle.shape.specs.Usable.{Usable, LinesWithin};
 ghost use Rattle.shape.specs.Refusal.{answerNumber};
 ghost use Rattle.lanes.specs.Lanes.{Uppers};
 ghost use Rattle.knots.specs.Joined.{total};
-ghost use Rattle.rectilinear_weights.specs.Ghosts.{ghostNumbers};
+ghost use Rattle.rectilinear_weights.specs.Records.{ghostNumbers};
 ghost use Rattle.rectilinear_lines.specs.Rows.{coefficient, upperNumber};
 ghost use Rattle.rectilinear.specs.Fit.{solve, upper, rectilinearFit, rectilinearScratch, rectilinearFitChecks, RectilinearFitted};
 use knots::all_rise;

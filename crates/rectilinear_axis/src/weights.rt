@@ -4,7 +4,7 @@ ghost use Prim.Native.Nat.{_+_, _*_, _≤_};
 ghost use lib.ListN.{length};
 ghost use lib.Ieee.{binary64};
 ghost use Rattle.knots.specs.Knots.{countBelow};
-ghost use Rattle.rectilinear_weights.specs.Ghosts.{ghostNumbers};
+ghost use Rattle.rectilinear_weights.specs.Records.{ghostNumbers};
 ghost use Rattle.evaluation.specs.Block.{RowsPut};
 ghost use Rattle.rectilinear_axis.specs.Axis.{Holds, countAt, placeWeights, weightsAt};
 use evaluation::put_row;

@@ -13,7 +13,7 @@ use Rattle.shape.proofs.Cells.{lt-or-ge}
 use Rattle.multibspline.specs.Numbers.{f0}
 use Rattle.multibspline.specs.Thomas.{at}
 use Rattle.rectilinear_basis.specs.Knot.{knot}
-use Rattle.rectilinear_basis.specs.Basis.{left, right, four, basis, spanKnots, weightsBetween, basisSpanWeights}
+use Rattle.rectilinear_basis.specs.Basis.{leftOf, rightOf, four, basis, spanKnots, weightsBetween, basisSpanWeights}
 
 -- the numbers of the two knots before the first, as floats
 pub before-first : (f : Format) (p : ℕ) → p < 2 → neg (ofInt f (pos (2 - p))) ≡ ofInt f (negsuc (2 - suc p))
@@ -69,7 +69,7 @@ from-six f left right a b c d e g = rw (a, b, c, d, e, g)
 
 pub between-six : (f : Format) (ks : List Float) (span : ℕ) (x : Float) → weightsBetween f (spanKnots f ks span) x ≡ basisSpanWeights f ks span x
 unfolding weightsBetween spanKnots basisSpanWeights
-between-six f ks span x = from-six f (left f ks span x) (right f ks span x) refl refl refl refl refl refl
+between-six f ks span x = from-six f (leftOf f ks span x) (rightOf f ks span x) refl refl refl refl refl refl
 
 pub by-six : (f : Format) (ks : List Float) (span : ℕ) (x : Float) {a b c d e g : Float} → a ∷ b ∷ c ∷ d ∷ e ∷ g ∷ [] ≡ spanKnots f ks span
     → four (basis f (at (f0 ∷ sub f x c ∷ sub f x b ∷ sub f x a ∷ [])) (at (f0 ∷ sub f d x ∷ sub f e x ∷ sub f g x ∷ [])) 3) ≡ basisSpanWeights f ks span x

@@ -12,11 +12,11 @@ use Rattle.multibspline.specs.Thomas.{at}
 use Rattle.rectilinear_basis.specs.Knot.{knot}
 
 -- left(j) = x - u(i + 1 - j) and right(j) = u(i + j) - x on the span i, for j from 1 to 3; u are the knots
-abbrev pub left : Format → List Float → ℕ → Float → ℕ → Float
-left f ks i x j = sub f x (knot f ks (subℕ (i + 1) j))
+abbrev pub leftOf : Format → List Float → ℕ → Float → ℕ → Float
+leftOf f ks i x j = sub f x (knot f ks (subℕ (i + 1) j))
 
-abbrev pub right : Format → List Float → ℕ → Float → ℕ → Float
-right f ks i x j = sub f (knot f ks (pos (i + j))) x
+abbrev pub rightOf : Format → List Float → ℕ → Float → ℕ → Float
+rightOf f ks i x j = sub f (knot f ks (pos (i + j))) x
 
 -- One turn of the book's loop over j: from the functions n(r) of degree j - 1 to those of degree j. `saved r` is what the
 -- variable `saved` holds as the inner loop comes to r.
@@ -41,7 +41,7 @@ abbrev pub four : (ℕ → Float) → List Float
 four n = n 0 ∷ n 1 ∷ n 2 ∷ n 3 ∷ []
 
 unfoldable pub basisSpanWeights : Format → List Float → ℕ → Float → List Float
-basisSpanWeights f ks span x = four (basis f (left f ks span x) (right f ks span x) 3)
+basisSpanWeights f ks span x = four (basis f (leftOf f ks span x) (rightOf f ks span x) 3)
 
 -- ---- by the six knots beside the span, which are the same for every x
 

@@ -8,19 +8,18 @@ use native.Mathlib.Omega.{arith}
 use lib.ListN.{length, getD, take}
 use lib.Ieee.{Float, Format, nan}
 use Rattle.shape.specs.Checks.{mostPoints}
-use Rattle.shape.specs.Sizes.{strideOf}
+use Rattle.shape.specs.Shape.{stride}
 use Rattle.knots.specs.Joined.{knotsOf}
 use Rattle.evaluation.specs.Axes.{query}
 use Rattle.evaluation.proofs.Weighed.{block-coordinate, block-inside}
-use Rattle.evaluation.proofs.Reach.{below-small}
+use Rattle.evaluation.proofs.Reach.{first-none, first-next, below-small}
 use Rattle.rectilinear_blocks.specs.Map.{RectilinearMap}
-use Rattle.rectilinear_blocks.specs.Eval.{firstOn}
 use Rattle.rectilinear_blocks.specs.Sound.{Gridded}
 use Rattle.evaluation.specs.Block.{RowsPut}
 use Rattle.rectilinear_axis.specs.Axis.{Holds, countAt, movedAt, placeWeights, placeSlopes, weightsAt, slopesAt}
 use Rattle.rectilinear_blocks.specs.Block.{InBatch, countOn, firstAt, weightsFor, slopesFor}
 use Rattle.rectilinear_axis.proofs.Located.{place-is}
-use Rattle.rectilinear_blocks.proofs.Places.{origin-on, first-next, first-below, weights-on, slopes-on}
+use Rattle.rectilinear_blocks.proofs.Places.{places-below, origin-on, weights-on, slopes-on}
 
 -- ---- coordinates
 
@@ -38,25 +37,24 @@ module _ (count : ℕ) (lens : List ℕ) (grid xs : List Float) (n start a : ℕ
   counts-off c = rw part c
 
 module _ (count : ℕ) (lens : List ℕ) (grid xs : List Float) (n start : ℕ) (four : length lens ≡ 4) (g : Gridded count lens grid) (a : ℕ) (h : a < count) {ks : List Float} (part : ks ≡ knotsOf grid (take count lens) a) where
-  module _ {m s : ℕ} {counts firsts : List ℕ} (c : Holds (countAt ks xs (a * n + start)) m counts) (w : Holds (firstAt count lens grid xs n start a) m firsts) (es : s ≡ strideOf count lens a) where
+  module _ {m s : ℕ} {counts firsts : List ℕ} (c : Holds (countAt ks xs (a * n + start)) m counts) (w : Holds (firstAt count lens grid xs n start a) m firsts) (es : s ≡ stride (take count lens) a) where
     -- the origin of the axis is added
     moved-on : (k : ℕ) → k < m → movedAt (length ks) s counts firsts k ≡ firstAt count lens grid xs n start (a + 1) k
     unfolding movedAt countAt
     moved-on k l =
         let x = query count xs n (start + k) in
-        first-next count lens grid x a (w .each k l) (origin-on count lens grid x a part (block-coordinate count xs n start a k h (g .shape .at-most-four)) (ap (λ loc. loc .origin) (place-is ks _ refl (c .each k l)))) es
+        first-next (take count lens) _ a (w .each k l) (origin-on count lens grid x a part (block-coordinate count xs n start a k h (g .shape .at-most-four)) (ap (λ loc. loc .origin) (place-is ks _ refl (c .each k l)))) es
 
     pub moved-small : (k : ℕ) → k < m → movedAt (length ks) s counts firsts k ≤ mostPoints
     moved-small k l =
         let x = query count xs n (start + k) in
-        rw (moved-on k l) (below-small count lens four (g .shape) (a + 1) _ (first-below count lens grid x four g (a + 1) (omega arith)))
+        rw (moved-on k l) (below-small count lens four (g .shape) (a + 1) _ (places-below count lens grid x four g (a + 1) (omega arith)))
 
     pub firsts-next : {firsts′ : List ℕ} → Holds (movedAt (length ks) s counts firsts) m firsts′ → Holds (firstAt count lens grid xs n start (a + 1)) m firsts′
     firsts-next e = record { each = λ k l. e .each k l ∙ moved-on k l }
 
 pub firsts-none : (count : ℕ) (lens : List ℕ) (grid xs : List Float) (n start : ℕ) {m : ℕ} {firsts : List ℕ} → ((k : ℕ) → k < m → getD firsts k 0 ≡ 0) → Holds (firstAt count lens grid xs n start 0) m firsts
-unfolding firstOn
-firsts-none count lens grid xs n start w = record { each = w }
+firsts-none count lens grid xs n start w = record { each = λ k l. w k l ∙ sym (first-none _ _) }
 
 -- ---- rows
 

@@ -4,18 +4,18 @@ use mathlib.Core.Path.{_≡_, refl, sym, ap, _∙_}
 use mathlib.Core.List.{List}
 use Prim.Native.Nat.{ℕ, zero, suc, _+_, _*_, _≤_, _<_}
 use native.Mathlib.Omega.{arith}
-use lib.ListN.{length, getD, set}
+use lib.ListN.{length, getD, set, take}
 use lib.Ieee.{Float, Format}
 use Rattle.shape.specs.Cells.{put}
 use Rattle.interp_math.specs.Sum.{summed, gradientPart}
-use Rattle.evaluation.specs.Axes.{query, strides, parts, zeros, Ready}
+use Rattle.evaluation.specs.Axes.{query, strides, firstOver, Ready}
 use Rattle.evaluation.specs.Batch.{badAt, valueStep, gradientStep, written}
 use Rattle.evaluation.specs.Block.{Weighed, weightsOf, Firsts, reach, Block}
 use Rattle.evaluation.proofs.Blocks.{weights-on}
 use Rattle.evaluation.proofs.Entries.{within-by}
 use Rattle.evaluation.proofs.Outcomes.{value-block, gradient-block, slope-block}
 use Rattle.rectilinear_blocks.specs.Map.{RectilinearMap}
-use Rattle.rectilinear_blocks.specs.Eval.{rectilinear, firstOn}
+use Rattle.rectilinear_blocks.specs.Eval.{rectilinear, originOn}
 use Rattle.rectilinear_blocks.specs.Sound.{Sound, Laid}
 use Rattle.rectilinear_axis.specs.Axis.{Holds}
 use Rattle.rectilinear_blocks.specs.Block.{firstAt, weightsFor, slopesFor}
@@ -28,12 +28,12 @@ ready r = record { shape = r .gridded .shape; four = r .four; strides-are = r .s
 pub firsts-reach : (count : ℕ) (lens : List ℕ) (grid coefs xs : List Float) (n start m : ℕ) → length lens ≡ 4 → Sound count lens grid (length coefs) → {ss : List ℕ} → ss ≡ strides count lens → {firsts : List ℕ}
     → Holds (firstAt count lens grid xs n start count) m firsts → Firsts firsts m (reach ss) (length coefs)
 firsts-reach count lens grid coefs xs n start m four sound es w =
-    record { within = λ k l. within-by es (reaches count lens grid (query count xs n (start + k)) (length coefs) four sound (w .each k l)) }
+    record { within = λ k l. within-by es (sound .gridded .shape .at-most-four) (reaches count lens grid (query count xs n (start + k)) (length coefs) four sound (w .each k l)) }
 
 -- ---- one axis is all of them
 
 pub firsts-one : (count : ℕ) (lens : List ℕ) (grid xs : List Float) (n start : ℕ) {m : ℕ} {firsts : List ℕ} → count ≡ 1 → Holds (firstAt count lens grid xs n start 1) m firsts → Holds (firstAt count lens grid xs n start count) m firsts
-firsts-one count lens grid xs n start one w = record { each = λ k l. w .each k l ∙ ap (firstOn count lens grid (query count xs n (start + k))) (sym one) }
+firsts-one count lens grid xs n start one w = record { each = λ k l. w .each k l ∙ ap (firstOver (take count lens) (originOn count lens grid (query count xs n (start + k)))) (sym one) }
 
 pub weighed-one : {row : ℕ → ℕ → List Float} {cap m count : ℕ} {rows : List Float} → count ≡ 1 → Weighed row cap m 1 rows → Weighed row cap m count rows
 weighed-one one w = record { at = λ b k h l. w .at b k (omega arith) l }

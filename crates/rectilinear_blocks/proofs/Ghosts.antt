@@ -5,8 +5,8 @@ use Prim.Native.Nat.{ℕ, zero, suc, _<_}
 use native.Mathlib.Nat.{not-suc-le-zero, le-of-suc-le-suc}
 use lib.ListN.{length, getD}
 use Rattle.rectilinear_weights.specs.declared.ghosts.Ghost.{Ghost}
-use Rattle.rectilinear_weights.specs.Ghosts.{ghostNumbers}
-use Rattle.rectilinear_blocks.specs.Map.{ghosts}
+use Rattle.rectilinear_weights.specs.Records.{ghostNumbers}
+use Rattle.rectilinear_blocks.specs.Records.{ghosts}
 
 pub ghosts-at : (gs : List Ghost) (a : ℕ) (d : Ghost) → a < length gs → ghostNumbers (getD gs a d) ≡ getD (ghosts gs) a []
 unfolding ghosts

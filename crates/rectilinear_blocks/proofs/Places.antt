@@ -1,14 +1,12 @@
 -- The places of a query on the axes of a map: rows of weights and slopes, and the first of the coefficients that count. For
 -- every format. Assumes nothing.
-use mathlib.Core.Path.{_≡_, refl, _∙_}
+use mathlib.Core.Path.{_≡_, _∙_}
 use mathlib.Core.Bool.{true}
 use mathlib.Core.List.{List, []}
-use Prim.Native.Nat.{ℕ, zero, suc, _+_, _*_, _≤_, _<_}
+use Prim.Native.Nat.{ℕ, _+_, _≤_, _<_}
 use native.Mathlib.Omega.{arith}
-use native.Mathlib.Numerals.{add-one}
 use lib.ListN.{length, getD, take}
 use lib.Ieee.{Float, Format, nan}
-use Rattle.shape.specs.Sizes.{strideOf}
 use Rattle.shape.specs.Usable.{Usable}
 use Rattle.knots.specs.Knots.{rises}
 use Rattle.knots.specs.Joined.{knotsOf, total}
@@ -17,12 +15,12 @@ use Rattle.knots.proofs.Totals.{part-length, part-long, axis-rises}
 use Rattle.knots.proofs.Places.{get-loc-within}
 use Rattle.rectilinear_weights.specs.Weights.{interpWeights, interpWeightDerivatives}
 use Rattle.interp_math.specs.Sum.{summed, gradientPart}
-use Rattle.evaluation.specs.Axes.{strides, rows, Reaches, RowsOn}
-use Rattle.evaluation.proofs.Blocks.{slope-alone}
+use Rattle.evaluation.specs.Axes.{strides, firstOver, Reaches, RowsOn}
+use Rattle.evaluation.proofs.Blocks.{slope-sum}
 use Rattle.evaluation.proofs.Entries.{value-rows, part-rows}
-use Rattle.evaluation.proofs.Reach.{Below, below-start, below-next, below-reaches}
+use Rattle.evaluation.proofs.Reach.{Below, first-below, below-reaches}
 use Rattle.rectilinear_blocks.specs.Map.{RectilinearMap}
-use Rattle.rectilinear_blocks.specs.Eval.{locOn, firstOn, weightsOn, slopesOn, valueAt, partAt}
+use Rattle.rectilinear_blocks.specs.Eval.{locOn, originOn, firstOn, weightsOn, slopesOn, valueAt, partAt}
 use Rattle.rectilinear_blocks.specs.Sound.{Gridded, Sound}
 
 -- ---- an axis of an accepted map
@@ -44,36 +42,18 @@ module _ (count : ℕ) (lens : List ℕ) (grid : List Float) (four : length lens
       let w = get-loc-within (knotsOf grid (take count lens) a) (getD x a nan) (rw n long) in
       omega (arith, w .origin-most, n)
 
--- ---- the first coefficient that counts, axis by axis
+-- ---- all coefficients that count lie within the map
 
 module _ (count : ℕ) (lens : List ℕ) (grid x : List Float) where
-  pub first-next : (a : ℕ) {i origin s : ℕ} → i ≡ firstOn count lens grid x a → origin ≡ locOn count lens grid x a .origin → s ≡ strideOf count lens a → i + origin * s ≡ firstOn count lens grid x (a + 1)
-  unfolding firstOn
-  first-next a ei eo es = rw (add-one a, ei, eo, es)
+  pub places-below : length lens ≡ 4 → Gridded count lens grid → (n : ℕ) → n ≤ count → Below count lens n (firstOver (take count lens) (originOn count lens grid x) n)
+  places-below four g n h = first-below count lens four (g .shape) (originOn count lens grid x) n h (λ a k. origin-room count lens grid four g a (omega arith) x)
 
-  module _ (four : length lens ≡ 4) (g : Gridded count lens grid) where
-    -- with one axis more, it stays within the map
-    pub next-below : (a i origin s : ℕ) → a < count → Below count lens a i → origin ≡ locOn count lens grid x a .origin → s ≡ strideOf count lens a → Below count lens (a + 1) (i + origin * s)
-    next-below a i origin s h below eo es = below-next count lens four (g .shape) a i origin s h below es (rw eo (origin-room count lens grid four g a h x))
-
-    pub first-below : (n : ℕ) → n ≤ count → Below count lens n (firstOn count lens grid x n)
-    unfolding firstOn
-    first-below zero h = below-start count lens four (g .shape)
-    first-below (suc a) h = rw add-one at (next-below a _ _ _ (omega arith) (first-below a (omega arith)) refl refl)
-
-  -- all that count lie within the map
-  pub reaches : (coefs : ℕ) → length lens ≡ 4 → Sound count lens grid coefs → {first : ℕ} → first ≡ firstOn count lens grid x count → Reaches count lens first coefs
-  reaches coefs four s e =
-      rw e (below-reaches count lens four (s .gridded .shape) (firstOn count lens grid x count) coefs (first-below four (s .gridded) count (omega arith)) (s .sized))
+  pub reaches : (coefs : ℕ) → length lens ≡ 4 → Sound count lens grid coefs → {first : ℕ} → first ≡ firstOn count lens grid x → Reaches count lens first coefs
+  reaches coefs four s {first} e = below-reaches count lens four (s .gridded .shape) first coefs (rw e (places-below four (s .gridded) count (omega arith))) (s .sized)
 
 -- ---- the figures of a map, by the strides and the rows that were worked out
 
--- over one axis the slopes stand in the place of the weights
-slope-sum : (f : Format) (coefs : List Float) (ss : List ℕ) (first count : ℕ) (weight slope : ℕ → List Float) {ds : List (List Float)} → count ≡ 1 → RowsOn count slope ds
-    → summed f coefs ss ds count first ≡ gradientPart f coefs ss (rows count weight) (rows count slope) count first 0
-slope-sum f coefs ss first count weight slope {ds} one d = let own = d .at 0 (omega arith) in rw one (slope-alone f coefs ss (rows 1 weight) (rows 1 slope) ds first (omega arith) own)
-
-module _ (f : Format) (m : RectilinearMap) (grid coefs x : List Float) {first : ℕ} (ef : first ≡ firstOn (m .count) (m .lens) grid x (m .count)) {ss : List ℕ} (es : ss ≡ strides (m .count) (m .lens)) where
+module _ (f : Format) (m : RectilinearMap) (grid coefs x : List Float) {first : ℕ} (ef : first ≡ firstOn (m .count) (m .lens) grid x) {ss : List ℕ} (es : ss ≡ strides (m .count) (m .lens)) where
   pub value-is : m .count ≤ 4 → {ws : List (List Float)} → RowsOn (m .count) (weightsOn f m grid x) ws → {v : Float} → v ≡ summed f coefs ss ws (m .count) first → v ≡ valueAt f m grid coefs x
   unfolding valueAt
   value-is few w e = rw (← ef) (rw es at e ∙ value-rows f coefs (strides (m .count) (m .lens)) (m .count) first few (weightsOn f m grid x) w)

@@ -1,10 +1,11 @@
 -- A block of queries, from query `start` of n on, axis by axis: what its buffers hold. Assumes nothing.
 use mathlib.Core.List.{List}
 use Prim.Native.Nat.{ℕ, _+_, _*_, _≤_, _<_}
+use lib.ListN.{take}
 use lib.Ieee.{Float, Format}
-use Rattle.evaluation.specs.Axes.{query}
+use Rattle.evaluation.specs.Axes.{query, firstOver}
 use Rattle.rectilinear_blocks.specs.Map.{RectilinearMap}
-use Rattle.rectilinear_blocks.specs.Eval.{knotsOn, firstOn, weightsOn, slopesOn}
+use Rattle.rectilinear_blocks.specs.Eval.{knotsOn, originOn, weightsOn, slopesOn}
 use Rattle.rectilinear_axis.specs.Axis.{countAt}
 
 -- m queries from `start` on are among the n, and all coordinates are there
@@ -19,7 +20,7 @@ module _ (count : ℕ) (lens : List ℕ) (grid xs : List Float) (n start a k : �
   countOn = countAt (knotsOn count lens grid a) xs (a * n + start) k
 
   abbrev pub firstAt : ℕ
-  firstAt = firstOn count lens grid (query count xs n (start + k)) a
+  firstAt = firstOver (take count lens) (originOn count lens grid (query count xs n (start + k))) a
 
 -- its weights on axis a, and their slopes
 module _ (f : Format) (m : RectilinearMap) (grid xs : List Float) (n start a k : ℕ) where

@@ -2,18 +2,17 @@
 -- f. Every query has a place, so that none is refused. Assumes nothing.
 use mathlib.Core.Bool.{false}
 use mathlib.Core.List.{List, [], _++_}
-use Prim.Native.Nat.{ℕ, zero, suc, _+_, _*_}
+use Prim.Native.Nat.{ℕ}
 use lib.ListN.{length, take, getD}
 use lib.Ieee.{Float, nan, Format}
 use Rattle.shape.specs.Shape.{size}
-use Rattle.shape.specs.Sizes.{strideOf}
 use Rattle.shape.specs.Checks.{Check, firstRefusal, shapeChecks, lengthCheck}
 use Rattle.knots.specs.Joined.{knotsOf}
 use Rattle.knots.specs.Place.{getLoc}
 use Rattle.knots.specs.declared.place.Loc.{Loc}
 use Rattle.rectilinear_weights.specs.Weights.{interpWeights, interpWeightDerivatives}
 use Rattle.knots.specs.Checks.{gridCheck, knotsCheck}
-use Rattle.evaluation.specs.Axes.{rows, valueFrom, gradientFrom}
+use Rattle.evaluation.specs.Axes.{rows, firstOver, valueFrom, gradientFrom}
 use Rattle.evaluation.specs.Spline.{Spline}
 use Rattle.rectilinear_blocks.specs.Map.{RectilinearMap}
 
@@ -26,10 +25,13 @@ knotsOn count lens grid a = knotsOf grid (take count lens) a
 unfoldable pub locOn : ℕ → List ℕ → List Float → List Float → ℕ → Loc
 locOn count lens grid x a = getLoc (knotsOn count lens grid a) (getD x a nan)
 
--- the first of the coefficients that count, over the first n axes: the sum of origin times stride
-unfoldable pub firstOn : ℕ → List ℕ → List Float → List Float → ℕ → ℕ
-firstOn count lens grid x zero = 0
-firstOn count lens grid x (suc a) = firstOn count lens grid x a + locOn count lens grid x a .origin * strideOf count lens a
+-- its origin
+abbrev pub originOn : ℕ → List ℕ → List Float → List Float → ℕ → ℕ
+originOn count lens grid x a = locOn count lens grid x a .origin
+
+-- the first of the coefficients that count
+abbrev pub firstOn : ℕ → List ℕ → List Float → List Float → ℕ
+firstOn count lens grid x = firstOver (take count lens) (originOn count lens grid x) count
 
 -- the weights of axis a, and its slopes
 module _ (f : Format) (m : RectilinearMap) (grid x : List Float) (a : ℕ) where
@@ -47,11 +49,11 @@ module _ (f : Format) (m : RectilinearMap) (grid x : List Float) (a : ℕ) where
 
 -- the value at the query, and part k of the gradient
 unfoldable pub valueAt : Format → RectilinearMap → List Float → List Float → List Float → Float
-valueAt f m grid coefs x = valueFrom f (m .count) (m .lens) coefs (rows (m .count) (weightsOn f m grid x)) (firstOn (m .count) (m .lens) grid x (m .count))
+valueAt f m grid coefs x = valueFrom f (m .count) (m .lens) coefs (rows (m .count) (weightsOn f m grid x)) (firstOn (m .count) (m .lens) grid x)
 
 unfoldable pub partAt : Format → RectilinearMap → List Float → List Float → List Float → ℕ → Float
 partAt f m grid coefs x k =
-    gradientFrom f (m .count) (m .lens) coefs (rows (m .count) (weightsOn f m grid x)) (rows (m .count) (slopesOn f m grid x)) (firstOn (m .count) (m .lens) grid x (m .count)) k
+    gradientFrom f (m .count) (m .lens) coefs (rows (m .count) (weightsOn f m grid x)) (rows (m .count) (slopesOn f m grid x)) (firstOn (m .count) (m .lens) grid x) k
 
 -- building from a grid alone: the record, the joined grid's length
 unfoldable pub gridAnswer : ℕ → List ℕ → List Float → ℕ

@@ -1,10 +1,8 @@
 -- A rectilinear map by its parts, for any format. Assumes nothing.
 use mathlib.Core.Bool.{Bool}
-use mathlib.Core.List.{List, [], _∷_}
+use mathlib.Core.List.{List}
 use Prim.Native.Nat.{ℕ}
 use lib.Ieee.{Float}
-use Rattle.rectilinear_weights.specs.declared.ghosts.Ghost.{Ghost}
-use Rattle.rectilinear_weights.specs.Ghosts.{ghostNumbers}
 
 -- axis count and four lengths; the ghost numbers of the low and of the high end of each axis, three an end; whether the map
 -- goes on in a straight line outside its grid. The joined grid is lent beside it
@@ -14,7 +12,3 @@ pub record RectilinearMap : Type 0 where
   pub low : List (List Float)
   pub high : List (List Float)
   pub linear : Bool
-
-unfoldable pub ghosts : List Ghost → List (List Float)
-ghosts [] = []
-ghosts (g ∷ gs) = ghostNumbers g ∷ ghosts gs

@@ -3,7 +3,8 @@
 ghost use Prim.Native.Nat.{_+_, _*_, _≤_, _<_};
 ghost use lib.ListN.{length};
 ghost use lib.Ieee.{binary64};
-ghost use Rattle.rectilinear_blocks.specs.Map.{RectilinearMap, ghosts};
+ghost use Rattle.rectilinear_blocks.specs.Map.{RectilinearMap};
+ghost use Rattle.rectilinear_blocks.specs.Records.{ghosts};
 ghost use Rattle.rectilinear_blocks.specs.Sound.{Gridded, Laid};
 ghost use Rattle.rectilinear_axis.specs.Axis.{Holds};
 ghost use Rattle.evaluation.specs.Block.{RowsPut, Weighed};

@@ -11,11 +11,6 @@ use lib.Ieee.{Float, Format, add, sub, mul, div}
 use Rattle.multibspline.specs.Numbers.{f0}
 use Rattle.multibspline.specs.Thomas.{Row, Reduced, at, forward, solution}
 use Rattle.rectilinear_basis.specs.Basis.{basisSpanWeights}
-use Rattle.rectilinear_lines.specs.declared.line.Row as declared
-
--- the code's record of a row
-abbrev pub rowOf : declared.Row → Row
-rowOf r = record { lower = r .lower; diag = r .diag; upper = r .upper; right = r .right }
 
 -- the four weights of span i at knot k
 abbrev pub atKnot : Format → List Float → ℕ → ℕ → List Float

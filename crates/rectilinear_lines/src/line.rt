@@ -9,9 +9,11 @@ ghost use Rattle.shape.specs.Cells.{onLine, line, writeLine};
 ghost use Rattle.shape.specs.Fit.{lineScratch};
 ghost use Rattle.shape.specs.Refusal.{answerNumber};
 ghost use Rattle.multibspline.specs.Thomas as Thomas;
-ghost use Rattle.multibspline.specs.Thomas.{reduce, reducedOf, withRow};
-ghost use Rattle.rectilinear_weights.specs.Ghosts.{ghostNumbers};
-ghost use Rattle.rectilinear_lines.specs.Rows.{rowOf, atKnot, lowRow, highRow, firstRow, innerRow, lastRow, reduced, upperNumber, coefficient};
+ghost use Rattle.multibspline.specs.Thomas.{reduce, withReduced};
+ghost use Rattle.multibspline.specs.Records.{reducedOf};
+ghost use Rattle.rectilinear_weights.specs.Records.{ghostNumbers};
+ghost use Rattle.rectilinear_lines.specs.Rows.{atKnot, lowRow, highRow, firstRow, innerRow, lastRow, reduced, upperNumber, coefficient};
+ghost use Rattle.rectilinear_lines.specs.Records.{rowOf};
 ghost use Rattle.rectilinear_lines.specs.Line.{LineSolved};
 use multibspline::Reduced;
 use multibspline::back_substitute;
@@ -101,7 +103,7 @@ fn inner_row(
     requires { ⌜ (4 ≤ length (now grid)) × (i + 1 < length (now grid)) × (onLine base stride (length (now grid) - 1) < length (now coeffs)) ⌝ }
     requires { ⌜ (length (now grid) ≤ m) × (m + length (now grid) ≤ length (now scratch)) ⌝ }
     ensures { λ r. ⌜ reducedOf r ≡ reduce binary64 (innerRow binary64 (now (grid .entry)) (line nan base stride (now (coeffs .entry))) i) (reducedOf «before») ⌝ }
-    ensures { λ r. ⌜ now (scratch .exit) ≡ withRow m i (reducedOf r) (now (scratch .entry)) ⌝ }
+    ensures { λ r. ⌜ now (scratch .exit) ≡ withReduced m i (reducedOf r) (now (scratch .entry)) ⌝ }
 {
     let w = at_knot(grid, i, i);
     let y = entry(base, stride, grid.len(), i, coeffs);
@@ -145,7 +147,7 @@ fn last_row(
 )
     requires { ⌜ (4 ≤ length (now grid)) × (onLine base stride (length (now grid) - 1) < length (now coeffs)) ⌝ }
     requires { ⌜ (length (now grid) ≤ m) × (m + length (now grid) ≤ length (now scratch)) ⌝ }
-    ensures { λ _. ⌜ now (scratch .exit) ≡ withRow m (length (now (grid .entry)) - 1) (reduce binary64 (lastRow binary64 (now (grid .entry)) (ghostNumbers «high_ghost») (line nan base stride (now (coeffs .entry)))) (reducedOf «before»)) (now (scratch .entry)) ⌝ }
+    ensures { λ _. ⌜ now (scratch .exit) ≡ withReduced m (length (now (grid .entry)) - 1) (reduce binary64 (lastRow binary64 (now (grid .entry)) (ghostNumbers «high_ghost») (line nan base stride (now (coeffs .entry)))) (reducedOf «before»)) (now (scratch .entry)) ⌝ }
 {
     let n = grid.len();
     let w = at_knot(grid, n - 2, n - 1);

@@ -1,22 +1,15 @@
--- The map that a record stands for, and what the functions that build one leave. Assumes nothing.
+-- What the functions that build a rectilinear map leave. Assumes nothing.
 use mathlib.Core.Bool.{Bool, false}
 use mathlib.Core.List.{List, [], _∷_}
 use Prim.Native.Nat.{ℕ}
 use lib.ListN.{take}
 use lib.Ieee.{Float, Format}
 use Rattle.multibspline.specs.Numbers.{f0}
-use Rattle.shape.specs.Refusal.{answerNumber}
 use Rattle.knots.specs.Joined.{knotsOf}
 use Rattle.rectilinear_weights.specs.Ghosts.{lowGhostCoeffs, highGhostCoeffs}
 use Rattle.evaluation.specs.Axes.{perAxis, inUse}
-use Rattle.rectilinear_blocks.specs.Map.{RectilinearMap, ghosts}
+use Rattle.rectilinear_blocks.specs.Map.{RectilinearMap}
 use Rattle.evaluation.specs.Built.{BuiltFrom}
-use Rattle.rectilinear_map.specs.declared.record.MultiBsplineRectilinear.{MultiBsplineRectilinear}
-use Rattle.rectilinear_map.specs.declared.record.Built.{Built}
-
--- the map that a record of the code stands for
-abbrev pub mapOf : MultiBsplineRectilinear → RectilinearMap
-mapOf r = record { count = r .count; lens = r .dims; low = ghosts (r .«low_ghost_coeffs»); high = ghosts (r .«high_ghost_coeffs»); linear = r .«linearize_extrapolation» }
 
 abbrev pub noGhost : List Float
 noGhost = f0 ∷ f0 ∷ f0 ∷ []
@@ -48,5 +41,5 @@ blank = record {
 }
 
 -- a function that builds a map, and answers so
-abbrev pub RectilinearBuilt : Format → ℕ → ℕ → List ℕ → List Float → Bool → Built → Type 0
-RectilinearBuilt f expected count lens grid linear r = BuiltFrom expected (made f count lens grid linear) blank (answerNumber (r .answer)) (mapOf (r .map))
+abbrev pub RectilinearBuilt : Format → ℕ → ℕ → List ℕ → List Float → Bool → ℕ → RectilinearMap → Type 0
+RectilinearBuilt f expected count lens grid linear answer handed = BuiltFrom expected (made f count lens grid linear) blank answer handed

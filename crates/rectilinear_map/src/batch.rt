@@ -3,7 +3,8 @@
 ghost use lib.Ieee.{binary64};
 ghost use Rattle.shape.specs.Refusal.{answerNumber};
 ghost use Rattle.evaluation.specs.Batch.{ValueBatch, GradientBatch};
-ghost use Rattle.rectilinear_blocks.specs.Map.{RectilinearMap, ghosts};
+ghost use Rattle.rectilinear_blocks.specs.Map.{RectilinearMap};
+ghost use Rattle.rectilinear_blocks.specs.Records.{ghosts};
 ghost use Rattle.rectilinear_blocks.specs.Eval.{rectilinear};
 use crate::build::check_map;
 use rectilinear_batches::put_gradients;

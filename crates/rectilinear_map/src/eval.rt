@@ -1,8 +1,10 @@
 // The value and the gradient of a rectilinear map at one query: its checks, and then a block of one.
 ghost use lib.Ieee.{binary64};
 ghost use Rattle.shape.specs.Refusal.{answerNumber};
+ghost use Rattle.evaluation.specs.Records.{valuedNumber, valuedValue};
 ghost use Rattle.evaluation.specs.Spline.{OneValue, OneGradient};
-ghost use Rattle.rectilinear_blocks.specs.Map.{RectilinearMap, ghosts};
+ghost use Rattle.rectilinear_blocks.specs.Map.{RectilinearMap};
+ghost use Rattle.rectilinear_blocks.specs.Records.{ghosts};
 ghost use Rattle.rectilinear_blocks.specs.Eval.{rectilinear};
 use crate::build::check_map;
 use evaluation::Gradient;
@@ -25,7 +27,7 @@ pub fn one(
     coeffs: &[f64],
     x: &[f64],
 ) -> Valued
-    ensures { λ r. ⌜ OneValue (rectilinear binary64 (record { count = count; lens = dims; low = ghosts low; high = ghosts high; linear = linear }) (now (grid .entry)) (now (coeffs .entry))) (now (x .entry)) r ⌝ }
+    ensures { λ r. ⌜ OneValue (rectilinear binary64 (record { count = count; lens = dims; low = ghosts low; high = ghosts high; linear = linear }) (now (grid .entry)) (now (coeffs .entry))) (now (x .entry)) (valuedNumber r) (valuedValue r) ⌝ }
 {
     if let Answer::Refused(refusal) = check_map(count, dims, grid, coeffs.len()) {
         return Valued::Refused(refusal);

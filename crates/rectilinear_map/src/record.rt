@@ -6,9 +6,11 @@ ghost use lib.Ieee.{binary64};
 ghost use Rattle.shape.specs.Checks.{firstRefusal};
 ghost use Rattle.shape.specs.Refusal.{answerNumber};
 ghost use Rattle.rectilinear.specs.Fit.{rectilinearFitChecks, RectilinearFitted};
+ghost use Rattle.evaluation.specs.Records.{valuedNumber, valuedValue};
 ghost use Rattle.evaluation.specs.Spline.{OneValue, OneGradient};
 ghost use Rattle.evaluation.specs.Batch.{ValueBatch, GradientBatch};
-ghost use Rattle.rectilinear_map.specs.Map.{mapOf, RectilinearBuilt};
+ghost use Rattle.rectilinear_map.specs.Map.{RectilinearBuilt};
+ghost use Rattle.rectilinear_map.specs.Records.{mapOf};
 ghost use Rattle.rectilinear_blocks.specs.Eval.{gridAnswer, mapAnswer, rectilinear};
 use crate::batch;
 use crate::build;
@@ -43,7 +45,7 @@ impl MultiBsplineRectilinear {
     // length of the joined grid; 2, the length of the coefficients; 5, a knot not above the one before it; 2, the number of
     // coordinates. No coordinate is refused; at a NaN the arithmetic gives what it gives.
     pub fn interp_one(self, grid: &[f64], coeffs: &[f64], x: &[f64]) -> Valued
-        ensures { λ r. ⌜ OneValue (rectilinear binary64 (mapOf self) (now (grid .entry)) (now (coeffs .entry))) (now (x .entry)) r ⌝ }
+        ensures { λ r. ⌜ OneValue (rectilinear binary64 (mapOf self) (now (grid .entry)) (now (coeffs .entry))) (now (x .entry)) (valuedNumber r) (valuedValue r) ⌝ }
     {
         let dims = self.dims;
         let low = self.low_ghost_coeffs;
@@ -124,7 +126,7 @@ impl MultiBsplineRectilinear {
     // A map from its coefficients, or the first of these refusals: 1, 2, 3 for the shape; 2, the length of the joined grid;
     // 2, the length of `coeffs`; 5, a knot not above the one before it.
     pub fn new(shape: Shape, grid: &[f64], coeffs: &[f64], linearize_extrapolation: bool) -> Built
-        ensures { λ r. ⌜ RectilinearBuilt binary64 (mapAnswer (shape .count) (shape .dims) (now (grid .entry)) (length (now (coeffs .entry)))) (shape .count) (shape .dims) (now (grid .entry)) «linearize_extrapolation» r ⌝ }
+        ensures { λ r. ⌜ RectilinearBuilt binary64 (mapAnswer (shape .count) (shape .dims) (now (grid .entry)) (length (now (coeffs .entry)))) (shape .count) (shape .dims) (now (grid .entry)) «linearize_extrapolation» (answerNumber (r .answer)) (mapOf (r .map)) ⌝ }
     {
         let dims = shape.dims;
         build::build(
@@ -139,7 +141,7 @@ impl MultiBsplineRectilinear {
     // A map from its grid, for a caller that builds it anew for each call that evaluates it: that call looks at the knots
     // and the coefficients, so that they are looked at once. 1, 2, 3 for the shape; 2, the length of the joined grid.
     pub fn of_grid(shape: Shape, grid: &[f64], linearize_extrapolation: bool) -> Built
-        ensures { λ r. ⌜ RectilinearBuilt binary64 (gridAnswer (shape .count) (shape .dims) (now (grid .entry))) (shape .count) (shape .dims) (now (grid .entry)) «linearize_extrapolation» r ⌝ }
+        ensures { λ r. ⌜ RectilinearBuilt binary64 (gridAnswer (shape .count) (shape .dims) (now (grid .entry))) (shape .count) (shape .dims) (now (grid .entry)) «linearize_extrapolation» (answerNumber (r .answer)) (mapOf (r .map)) ⌝ }
     {
         let dims = shape.dims;
         build::of_grid(shape.count, dims, grid, linearize_extrapolation)
@@ -155,7 +157,7 @@ impl MultiBsplineRectilinear {
         scratch: &mut [f64],
         linearize_extrapolation: bool,
     ) -> Built
-        ensures { λ r. ⌜ RectilinearBuilt binary64 (firstRefusal (rectilinearFitChecks (shape .count) (shape .dims) (now (grid .entry)) (length (now (vals .entry))) (length (now (coeffs .entry))) (length (now (scratch .entry))))) (shape .count) (shape .dims) (now (grid .entry)) «linearize_extrapolation» r ⌝ }
+        ensures { λ r. ⌜ RectilinearBuilt binary64 (firstRefusal (rectilinearFitChecks (shape .count) (shape .dims) (now (grid .entry)) (length (now (vals .entry))) (length (now (coeffs .entry))) (length (now (scratch .entry))))) (shape .count) (shape .dims) (now (grid .entry)) «linearize_extrapolation» (answerNumber (r .answer)) (mapOf (r .map)) ⌝ }
         ensures { λ r. ⌜ RectilinearFitted binary64 (shape .count) (shape .dims) (now (grid .entry)) (now (vals .entry)) (now (coeffs .entry)) (now (scratch .entry)) (answerNumber (r .answer)) (now (coeffs .exit)) (now (scratch .exit)) ⌝ }
     {
         let dims = shape.dims;

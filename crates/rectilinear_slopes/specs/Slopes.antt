@@ -65,18 +65,18 @@ basisSpanWeightDerivatives f ks span x = four (λ j. lagrangeDerivative f (spanS
 
 -- ---- third derivatives: six times the third divided difference
 
--- (b - a) / (x(k) - x(i))
-abbrev pub divided : Format → List Float → ℕ → ℕ → Float → Float → Float
-divided f xs i k a b = div f (sub f b a) (sub f (at xs k) (at xs i))
+-- a divided difference: (b - a) / (x(k) - x(i))
+abbrev pub dividedDifference : Format → List Float → ℕ → ℕ → Float → Float → Float
+dividedDifference f xs i k a b = div f (sub f b a) (sub f (at xs k) (at xs i))
 
 unfoldable pub thirdDividedDifference : Format → List Float → List Float → Float
 thirdDividedDifference f xs ys =
-    let d01 = divided f xs 0 1 (at ys 0) (at ys 1) in
-    let d12 = divided f xs 1 2 (at ys 1) (at ys 2) in
-    let d23 = divided f xs 2 3 (at ys 2) (at ys 3) in
-    let d012 = divided f xs 0 2 d01 d12 in
-    let d123 = divided f xs 1 3 d12 d23 in
-    divided f xs 0 3 d012 d123
+    let d01 = dividedDifference f xs 0 1 (at ys 0) (at ys 1) in
+    let d12 = dividedDifference f xs 1 2 (at ys 1) (at ys 2) in
+    let d23 = dividedDifference f xs 2 3 (at ys 2) (at ys 3) in
+    let d012 = dividedDifference f xs 0 2 d01 d12 in
+    let d123 = dividedDifference f xs 1 3 d12 d23 in
+    dividedDifference f xs 0 3 d012 d123
 
 unfoldable pub spanWeightThirdDerivatives : Format → List Float → ℕ → List Float
 spanWeightThirdDerivatives f ks span = four (λ j. mul f f6 (thirdDividedDifference f (spanSamples f ks span) (column (sampled f ks span) j)))

@@ -12,7 +12,7 @@ use lib.Ieee.{Float, Format, sub, mul}
 use Rattle.multibspline.specs.Numbers.{f0}
 use Rattle.multibspline.specs.Thomas.{Row, Reduced, at, reduce}
 use Rattle.multibspline.proofs.Sweeps.{back-here}
-use Rattle.lanes.specs.Lanes.{zeros, Uppers, swept, lessCell, stepCell, backCell}
+use Rattle.lanes.specs.Lanes.{zeroSamples, Uppers, swept, lessCell, stepCell, backCell}
 use Rattle.lanes.proofs.Solving.{Scheme}
 use Rattle.rectilinear_lines.specs.Rows.{atKnot, lowRow, highRow, firstRow, innerRow, lastRow, row, reduced, upperNumber, coefficient}
 use Rattle.rectilinear_sweeps.specs.Sweeps.{above, lowFactor, highFactor, lowNumbers, highNumbers, rowCell, lowAt, highAt, innerAt, lastAt, upperNext}
@@ -33,16 +33,16 @@ module _ (f : Format) (ks low high : List Float) where
   upper-same y z zero = refl
   upper-same y z (suc i) = reduce-upper y z (suc i) (eqb (suc i) (length ks - 1)) (reduced f ks low high y i) (reduced f ks low high z i) (upper-same y z i)
 
-  pub upper-first : (x : Float) → upperNext f ks low high 0 x ≡ upperNumber f ks low high zeros 0
+  pub upper-first : (x : Float) → upperNext f ks low high 0 x ≡ upperNumber f ks low high zeroSamples 0
   unfolding upperNext
   upper-first x = refl
 
   reduce-above : (r : Row) (p : Reduced) → reduce f r (above (p .upper)) .upper ≡ reduce f r p .upper
   reduce-above r p = refl
 
-  pub upper-next : (i : ℕ) → upperNext f ks low high (suc i) (upperNumber f ks low high zeros i) ≡ upperNumber f ks low high zeros (suc i)
+  pub upper-next : (i : ℕ) → upperNext f ks low high (suc i) (upperNumber f ks low high zeroSamples i) ≡ upperNumber f ks low high zeroSamples (suc i)
   unfolding upperNext
-  upper-next i = rw (ne-eqb (suc i) 0 (λ e. omega arith)) (reduce-above (row f ks high zeros (suc i)) (reduced f ks low high zeros i))
+  upper-next i = rw (ne-eqb (suc i) 0 (λ e. omega arith)) (reduce-above (row f ks high zeroSamples (suc i)) (reduced f ks low high zeroSamples i))
 
   -- ---- the scheme
 
@@ -118,14 +118,14 @@ module _ (f : Format) (ks : List Float) where
 
   -- upper number i, by which row it is
   module _ (low high : List Float) (i : ℕ) (u u′ : List Float) (v : Float) (e : u′ ≡ set u i v) where
-    pub next-first : i ≡ 0 → v ≡ firstRow f ks low zeros .upper → u′ ≡ set u i (upperNext f ks low high i (at u (i - 1)))
+    pub next-first : i ≡ 0 → v ≡ firstRow f ks low zeroSamples .upper → u′ ≡ set u i (upperNext f ks low high i (at u (i - 1)))
     unfolding upperNext
     next-first here ev = rw (eq-eqb i 0 here, ← ev) e
 
-    pub next-last : (i ≡ 0 → ⊥) → i ≡ length ks - 1 → v ≡ reduce f (lastRow f ks high zeros) (above (at u (i - 1))) .upper → u′ ≡ set u i (upperNext f ks low high i (at u (i - 1)))
+    pub next-last : (i ≡ 0 → ⊥) → i ≡ length ks - 1 → v ≡ reduce f (lastRow f ks high zeroSamples) (above (at u (i - 1))) .upper → u′ ≡ set u i (upperNext f ks low high i (at u (i - 1)))
     unfolding upperNext
     next-last some here ev = rw (ne-eqb i 0 some, eq-eqb i (length ks - 1) here, ← ev) e
 
-    pub next-inner : (i ≡ 0 → ⊥) → (i ≡ length ks - 1 → ⊥) → v ≡ reduce f (innerRow f ks zeros i) (above (at u (i - 1))) .upper → u′ ≡ set u i (upperNext f ks low high i (at u (i - 1)))
+    pub next-inner : (i ≡ 0 → ⊥) → (i ≡ length ks - 1 → ⊥) → v ≡ reduce f (innerRow f ks zeroSamples i) (above (at u (i - 1))) .upper → u′ ≡ set u i (upperNext f ks low high i (at u (i - 1)))
     unfolding upperNext
     next-inner some here ev = rw (ne-eqb i 0 some, ne-eqb i (length ks - 1) here, ← ev) e

@@ -10,7 +10,7 @@ use lib.ListN.{length}
 use lib.Ieee.{Float, Format, div}
 use Rattle.multibspline.specs.Numbers.{f0}
 use Rattle.multibspline.specs.Thomas.{Row, Reduced, at, denom, reduce}
-use Rattle.lanes.specs.Lanes.{zeros, lessCell, stepCell}
+use Rattle.lanes.specs.Lanes.{zeroSamples, lessCell, stepCell}
 use Rattle.rectilinear_lines.specs.Rows.{atKnot, plus, lowRow, highRow, firstRow, innerRow, lastRow, row}
 
 -- a reduced row by its upper number alone
@@ -29,7 +29,7 @@ abbrev pub lowNumbers : Format → List Float → List Float → Row
 lowNumbers f ks low = lowRow f (atKnot f ks 0 0) (atKnot f ks 1 1) low f0 f0
 
 abbrev pub highNumbers : Format → List Float → List Float → Row
-highNumbers f ks high = lastRow f ks high zeros
+highNumbers f ks high = lastRow f ks high zeroSamples
 
 -- row i, with the row before it eliminated, whose upper number is u
 abbrev pub rowCell : Format → Row → Float → Float → Float → Float
@@ -43,11 +43,11 @@ unfoldable pub highAt : Format → List Float → List Float → Float → Float
 highAt f ks high = lessCell f (highFactor f (atKnot f ks (length ks - 2) (length ks - 1)) (atKnot f ks (length ks - 2) (length ks - 2)) high)
 
 unfoldable pub innerAt : Format → List Float → List Float → ℕ → Float → Float → Float
-innerAt f ks u i = rowCell f (innerRow f ks zeros i) (at u (i - 1))
+innerAt f ks u i = rowCell f (innerRow f ks zeroSamples i) (at u (i - 1))
 
 unfoldable pub lastAt : Format → List Float → List Float → List Float → Float → Float → Float
 lastAt f ks high u = rowCell f (highNumbers f ks high) (at u (length ks - 2))
 
 -- upper number i, from the one before it
 unfoldable pub upperNext : Format → List Float → List Float → List Float → ℕ → Float → Float
-upperNext f ks low high i u = cond (eqb i 0) (firstRow f ks low zeros .upper) (reduce f (row f ks high zeros i) (above u) .upper)
+upperNext f ks low high i u = cond (eqb i 0) (firstRow f ks low zeroSamples .upper) (reduce f (row f ks high zeroSamples i) (above u) .upper)

@@ -3,7 +3,7 @@ ghost use mathlib.Core.Path.{_≡_};
 ghost use Prim.Native.Nat.{ℕ, _-_, _≤_, _<_};
 ghost use lib.ListN.{length};
 ghost use lib.Ieee.{binary64};
-ghost use Rattle.rectilinear_weights.specs.Ghosts.{ghostNumbers};
+ghost use Rattle.rectilinear_weights.specs.Records.{ghostNumbers};
 ghost use Rattle.rectilinear_lines.specs.Rows.{atKnot};
 ghost use Rattle.rectilinear_sweeps.specs.Sweeps.{lowFactor, highFactor, lowNumbers, highNumbers};
 use rectilinear_lines::at_knot;

@@ -9,7 +9,7 @@ ghost use lib.Ieee.{binary64, nan};
 ghost use Rattle.shape.specs.Cells.{onLine};
 ghost use Rattle.shape.specs.Fit.{solveLines};
 ghost use Rattle.lanes.specs.Lanes.{Lanes, Uppers, solveFrom, swept, sweepUp};
-ghost use Rattle.rectilinear_weights.specs.Ghosts.{ghostNumbers};
+ghost use Rattle.rectilinear_weights.specs.Records.{ghostNumbers};
 ghost use Rattle.rectilinear_lines.specs.Rows.{coefficient, upperNumber};
 ghost use Rattle.rectilinear_sweeps.specs.Sweeps.{lowAt, highAt, innerAt, lastAt};
 use crate::ends::high_end;

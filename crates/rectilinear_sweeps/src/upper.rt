@@ -5,8 +5,8 @@ ghost use lib.ListN.{length, set};
 ghost use lib.Ieee.{binary64};
 ghost use Rattle.shape.specs.Cells.{put, from};
 ghost use Rattle.multibspline.specs.Thomas.{at, reduce};
-ghost use Rattle.lanes.specs.Lanes.{zeros};
-ghost use Rattle.rectilinear_weights.specs.Ghosts.{ghostNumbers};
+ghost use Rattle.lanes.specs.Lanes.{zeroSamples};
+ghost use Rattle.rectilinear_weights.specs.Records.{ghostNumbers};
 ghost use Rattle.rectilinear_lines.specs.Rows.{firstRow, innerRow, lastRow, upperNumber};
 ghost use Rattle.rectilinear_sweeps.specs.Sweeps.{above, upperNext};
 use crate::ends::high_end;
@@ -17,7 +17,7 @@ use rectilinear_weights::Ghost;
 // Of the first row.
 fn low_upper(grid: &[f64], low_ghost: Ghost) -> f64
     requires { ⌜ 4 ≤ length (now grid) ⌝ }
-    ensures { λ r. ⌜ r ≡ firstRow binary64 (now (grid .entry)) (ghostNumbers «low_ghost») zeros .upper ⌝ }
+    ensures { λ r. ⌜ r ≡ firstRow binary64 (now (grid .entry)) (ghostNumbers «low_ghost») zeroSamples .upper ⌝ }
 {
     let end = low_end(grid, low_ghost);
     end.upper / end.diag
@@ -26,7 +26,7 @@ fn low_upper(grid: &[f64], low_ghost: Ghost) -> f64
 // Of row i between the ends, from that of the row before.
 fn inner_upper(grid: &[f64], i: usize, u: f64) -> f64
     requires { ⌜ (4 ≤ length (now grid)) × (i + 1 < length (now grid)) ⌝ }
-    ensures { λ r. ⌜ r ≡ reduce binary64 (innerRow binary64 (now (grid .entry)) zeros i) (above u) .upper ⌝ }
+    ensures { λ r. ⌜ r ≡ reduce binary64 (innerRow binary64 (now (grid .entry)) zeroSamples i) (above u) .upper ⌝ }
 {
     let w = at_knot(grid, i, i);
     w[2] / (w[1] - w[0] * u)
@@ -35,7 +35,7 @@ fn inner_upper(grid: &[f64], i: usize, u: f64) -> f64
 // Of the last row.
 fn high_upper(grid: &[f64], high_ghost: Ghost, u: f64) -> f64
     requires { ⌜ 4 ≤ length (now grid) ⌝ }
-    ensures { λ r. ⌜ r ≡ reduce binary64 (lastRow binary64 (now (grid .entry)) (ghostNumbers «high_ghost») zeros) (above u) .upper ⌝ }
+    ensures { λ r. ⌜ r ≡ reduce binary64 (lastRow binary64 (now (grid .entry)) (ghostNumbers «high_ghost») zeroSamples) (above u) .upper ⌝ }
 {
     let end = high_end(grid, high_ghost);
     end.upper / (end.diag - end.lower * u)
@@ -56,7 +56,7 @@ fn next_upper(grid: &[f64], low_ghost: Ghost, high_ghost: Ghost, i: usize, upper
 
 pub fn upper_numbers(grid: &[f64], low_ghost: Ghost, high_ghost: Ghost, upper: &mut [f64])
     requires { ⌜ (4 ≤ length (now grid)) × (length (now grid) ≤ length (now upper)) ⌝ }
-    ensures { λ _. ⌜ now (upper .exit) ≡ put (from 0) (upperNumber binary64 (now (grid .entry)) (ghostNumbers «low_ghost») (ghostNumbers «high_ghost») zeros) (length (now (grid .entry))) (now (upper .entry)) ⌝ }
+    ensures { λ _. ⌜ now (upper .exit) ≡ put (from 0) (upperNumber binary64 (now (grid .entry)) (ghostNumbers «low_ghost») (ghostNumbers «high_ghost») zeroSamples) (length (now (grid .entry))) (now (upper .entry)) ⌝ }
 {
     for i in 0..grid.len() {
         next_upper(grid, low_ghost, high_ghost, i, upper);

@@ -7,7 +7,6 @@ use lib.ListN.{length}
 use lib.Ieee.{Float, Format, neg, div}
 use Rattle.multibspline.specs.Thomas.{at}
 use Rattle.rectilinear_slopes.specs.Slopes.{spanWeightThirdDerivatives}
-use Rattle.rectilinear_weights.specs.declared.ghosts.Ghost.{Ghost}
 
 -- with q the third derivatives of the four weights in the first span: c(-1) = -q1/q0 c(0) - q2/q0 c(1) - q3/q0 c(2)
 unfoldable pub lowGhostCoeffs : Format → List Float → List Float
@@ -20,7 +19,3 @@ unfoldable pub highGhostCoeffs : Format → List Float → List Float
 highGhostCoeffs f ks =
     let q = spanWeightThirdDerivatives f ks (length ks - 2) in
     div f (neg (at q 0)) (at q 3) ∷ div f (neg (at q 1)) (at q 3) ∷ div f (neg (at q 2)) (at q 3) ∷ []
-
--- the three numbers of the code's record
-abbrev pub ghostNumbers : Ghost → List Float
-ghostNumbers g = g .p0 ∷ g .p1 ∷ g .p2 ∷ []

@@ -1,2 +1,3 @@
 pub mod Ghosts
 pub mod Weights
+pub mod Records

@@ -3,7 +3,8 @@ ghost use mathlib.Core.Path.{_≡_};
 ghost use Prim.Native.Nat.{_≤_};
 ghost use lib.ListN.{length};
 ghost use lib.Ieee.{binary64};
-ghost use Rattle.rectilinear_weights.specs.Ghosts.{ghostNumbers, lowGhostCoeffs, highGhostCoeffs};
+ghost use Rattle.rectilinear_weights.specs.Ghosts.{lowGhostCoeffs, highGhostCoeffs};
+ghost use Rattle.rectilinear_weights.specs.Records.{ghostNumbers};
 use rectilinear_slopes::span_weight_third_derivatives;
 
 // The factors of the three stored coefficients beside a ghost coefficient, in their order on the line.

@@ -9,6 +9,7 @@ ghost use Rattle.shape.specs.Refusal.{answerNumber};
 ghost use Rattle.shape.specs.Usable.{Usable};
 ghost use Rattle.evaluation.specs.Axes.{query, Ready};
 ghost use Rattle.evaluation.specs.Batch.{badAt, valueStep, gradientStep, Entries};
+ghost use Rattle.evaluation.specs.Records.{valuedNumber, valuedValue};
 ghost use Rattle.evaluation.specs.Spline.{Answered, GradientAnswered};
 ghost use Rattle.regular_blocks.specs.Checks.{regular};
 use evaluation::Gradient;
@@ -216,7 +217,7 @@ pub fn value_at(
     x: &[f64],
 ) -> Valued
     requires { ⌜ Usable count dims × (length (now coeffs) ≡ size (take count dims)) × (count ≤ length (now x)) ⌝ }
-    ensures { λ r. ⌜ Answered (regular binary64 (record { count = count; lens = dims; starts = starts; steps = steps; linear = linear }) (now (coeffs .entry))) (query count (now (x .entry)) 1 0) r ⌝ }
+    ensures { λ r. ⌜ Answered (regular binary64 (record { count = count; lens = dims; starts = starts; steps = steps; linear = linear }) (now (coeffs .entry))) (query count (now (x .entry)) 1 0) (valuedNumber r) (valuedValue r) ⌝ }
 {
     let strides = strides_of(count, dims);
     let mut firsts = [0usize; 1];

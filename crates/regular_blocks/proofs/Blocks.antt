@@ -14,7 +14,7 @@ use Rattle.evaluation.proofs.Entries.{within-by}
 use Rattle.regular_blocks.specs.Map.{RegularMap}
 use Rattle.regular_blocks.specs.Eval.{weightsOn, slopesOn, valueAt, partAt, refuses}
 use Rattle.regular_blocks.specs.Block.{FirstsTo, RowsTo}
-use Rattle.regular_blocks.proofs.Firsts.{no-cell, has-cell, reaches, value-is, part-is, slope-is}
+use Rattle.regular_blocks.proofs.Firsts.{no-place, has-place, reaches, value-is, part-is, slope-is}
 
 -- the rows of entry k, as a table
 rows-of : {row : List Float → ℕ → List Float} {count : ℕ} {xs : List Float} {n start cap good : ℕ} (rows : List Float) → RowsTo row count xs n start cap count good rows → count ≤ 4 → (k : ℕ) → k < good
@@ -23,14 +23,14 @@ rows-of {cap = cap} rows w few k g = weights-on rows cap k few (λ a h. w .weigh
 
 module _ (f : Format) (map : RegularMap) (xs : List Float) (n start m : ℕ) {good : ℕ} {firsts : List ℕ} (w : FirstsTo f map xs n start m (map .count) good firsts) where
   pub entry-good : (k : ℕ) → k < good → refuses f map (query (map .count) xs n (start + k)) ≡ false
-  entry-good k h = has-cell f map _ (w .found k h)
+  entry-good k h = has-place f map _ (w .placed k h)
 
   pub entry-stops : good < m → refuses f map (query (map .count) xs n (start + good)) ≡ true
-  entry-stops h = no-cell f map _ (w .refused h)
+  entry-stops h = no-place f map _ (w .refused h)
 
   module _ (coefs : List Float) {ss : List ℕ} (r : Ready (map .count) (map .lens) ss) where
     pub entries-reach : length coefs ≡ size (take (map .count) (map .lens)) → Firsts firsts good (reach ss) (length coefs)
-    entries-reach sized = record { within = λ k h. within-by (r .strides-are) (reaches f map _ (w .found k h) coefs (r .four) (r .shape) sized) }
+    entries-reach sized = record { within = λ k h. within-by (r .strides-are) (r .shape .at-most-four) (reaches f map _ (w .found k h) coefs (w .placed k h) (r .four) (r .shape) sized) }
 
     module _ {cap : ℕ} where
       pub entry-value : (rows : List Float) → RowsTo (weightsOn f map) (map .count) xs n start cap (map .count) good rows → (k : ℕ) → k < good

@@ -1,6 +1,7 @@
 -- A block of queries, axis by axis: the first of the coefficients that count for each, and its rows. For every format. Assumes
 -- nothing.
 use mathlib.Core.Path.{_≡_, refl, sym, ap, _∙_}
+use mathlib.Core.Bool.{Bool, true, false, _||_}
 use mathlib.Core.Logic.{_⊎_, inl, inr}
 use mathlib.Core.List.{List}
 use Prim.Native.Nat.{ℕ, suc, _+_, _*_, _≤_, _<_}
@@ -9,22 +10,21 @@ use native.Mathlib.Omega.{arith}
 use native.Mathlib.Numerals.{add-one}
 use lib.ListN.{length, getD, take}
 use lib.Ieee.{Float, nan, Format}
+use Rattle.shape.specs.Below.{anyBelow}
 use Rattle.shape.specs.Shape.{stride}
-use Rattle.shape.specs.Sizes.{strideOf}
-use Rattle.shape.proofs.Accepted.{room, axis-small, usable-accepted, stride-is, points-are}
+use Rattle.shape.proofs.Accepted.{room, axis-small, points-are}
 use Rattle.regular_weights.specs.Place.{getLoc}
 use Rattle.regular_weights.specs.declared.place.Loc.{Loc}
 use Rattle.evaluation.specs.Axes.{query, Ready}
 use Rattle.evaluation.specs.Block.{RowsPut}
 use Rattle.evaluation.proofs.Entries.{stride-at}
-use Rattle.evaluation.proofs.Reach.{below-small}
+use Rattle.evaluation.proofs.Reach.{first-none, first-next, below-small}
 use Rattle.evaluation.proofs.Weighed.{block-coordinate, block-inside, block-room, weighed-none, weighed-next}
-use Rattle.regular_blocks.specs.First as First
 use Rattle.regular_blocks.specs.Map.{RegularMap}
-use Rattle.regular_blocks.specs.Eval.{locOn, firstOn, weightsOn, slopesOn}
+use Rattle.regular_blocks.specs.Eval.{locOn, noPlaceOn, originOn, originAt, weightsOn, slopesOn}
 use Rattle.regular_axis.specs.Axis.{Axis, Places, weightRow, slopeRow}
 use Rattle.regular_blocks.specs.Block.{Room, FirstsTo, RowsTo}
-use Rattle.regular_blocks.proofs.Firsts.{first-below}
+use Rattle.regular_blocks.proofs.Firsts.{places-below}
 
 -- ---- the axes of an accepted map
 
@@ -32,8 +32,7 @@ pub axis-ready : {count : ℕ} {lens ss : List ℕ} (a : ℕ) → Ready count le
 axis-ready {count} {lens} {ss} a r h =
     let u = r .shape in
     let small = axis-small count lens (r .four) u a h in
-    let same : getD ss a 0 ≡ stride (take count lens) a = stride-at count lens a (r .strides-are) (omega (arith, u .at-most-four)) ∙ stride-is count lens (usable-accepted count lens (r .four) u) a h in
-    record { four = small .0; few = small .1; cells = rw (same, ← points-are count lens (r .four) u a h) (room count lens (r .four) u a h .row-small) }
+    record { four = small .0; few = small .1; cells = rw (stride-at a r h, ← points-are count lens (r .four) u a h) (room count lens (r .four) u a h .row-small) }
 
 -- ---- what is lent is long enough
 
@@ -51,14 +50,14 @@ module _ {count n start cap m xs firsts sats ts rows : ℕ} (w : Room count n st
 
 module _ (f : Format) (map : RegularMap) (xs : List Float) (n start : ℕ) where
   pub firsts-start : {m : ℕ} {firsts : List ℕ} → ((k : ℕ) → k < m → getD firsts k 0 ≡ 0) → FirstsTo f map xs n start m 0 m firsts
-  unfolding firstOn
+  unfolding anyBelow
   firsts-start zeros =
-      record { most = omega arith; found = λ k h. ap First.At (sym (zeros k h)); refused = λ h. absurd (let q : ⊥ = omega arith in q) }
+      record { most = omega arith; placed = λ k h. refl; found = λ k h. zeros k h ∙ sym (first-none _ _); refused = λ h. absurd (let q : ⊥ = omega arith in q) }
 
   -- no entry yet has moved past the map
   pub firsts-small : {ss : List ℕ} {m a good : ℕ} {firsts : List ℕ} → Ready (map .count) (map .lens) ss → a ≤ map .count → FirstsTo f map xs n start m a good firsts → (k : ℕ) → k < good → getD firsts k 0 ≤ 16777216
   firsts-small {ss} {m} {a} {good} {firsts} r h w k g =
-      below-small (map .count) (map .lens) (r .four) (r .shape) a _ (first-below f map (query (map .count) xs n (start + k)) (r .four) (r .shape) a _ h (w .found k g))
+      rw (w .found k g) (below-small (map .count) (map .lens) (r .four) (r .shape) a _ (places-below f map (query (map .count) xs n (start + k)) (r .four) (r .shape) a h (w .placed k g)))
 
   module _ (few : map .count ≤ 4) (a : ℕ) (h : a < map .count) where
     coordinate : (k : ℕ) → getD xs (a * n + start + k) nan ≡ getD (query (map .count) xs n (start + k)) a nan
@@ -71,20 +70,27 @@ module _ (f : Format) (map : RegularMap) (xs : List Float) (n start : ℕ) where
 
     module _ {s good r : ℕ} {firsts firsts′ sats : List ℕ} {ts : List Float}
         (p : Places f (getD (map .lens) a 0) (getD (map .starts) a nan) (getD (map .steps) a nan) s xs (a * n + start) good firsts r firsts′ sats ts) where
-      pub firsts-next : {m : ℕ} → s ≡ strideOf (map .count) (map .lens) a → FirstsTo f map xs n start m a good firsts → FirstsTo f map xs n start m (a + 1) r firsts′
-      unfolding firstOn
+      pub firsts-next : {m : ℕ} → s ≡ stride (take (map .count) (map .lens)) a → FirstsTo f map xs n start m a good firsts → FirstsTo f map xs n start m (a + 1) r firsts′
+      unfolding anyBelow
       firsts-next {m} same w =
           record {
             most = omega (arith, p .most, w .most);
+            placed = λ k g. rw (add-one a, on-axis k (p .placed k g .place)) (w .placed k (omega (arith, p .most)));
             found = λ k g.
                 let q = p .placed k g in
-                rw (add-one a) (rw (w .found k (omega (arith, p .most)), on-axis k (q .place), ← same, q .moved));
+                q .moved ∙ first-next (take (map .count) (map .lens)) _ a (w .found k (omega (arith, p .most))) (ap originAt (sym (on-axis k (q .place)))) same;
             refused = λ g. go g (eq-or-lt-of-le (p .most));
           }
         where
-          go : r < m → (r ≡ good) ⊎ (r < good) → firstOn f map (query (map .count) xs n (start + r)) (a + 1) ≡ First.Unrepresentable
-          go g (inl e) = rw (add-one a) (rw (let z : firstOn f map (query (map .count) xs n (start + r)) a ≡ First.Unrepresentable = rw e (w .refused (omega arith)) in z))
-          go g (inr l) = rw (add-one a) (rw (w .found r l, on-axis r (p .stopped l)))
+          or-true : (b : Bool) → b || true ≡ true
+          or-true true = refl
+          or-true false = refl
+
+          go : r < m → (r ≡ good) ⊎ (r < good) → anyBelow (noPlaceOn f map (query (map .count) xs n (start + r))) (a + 1) ≡ true
+          go g (inl e) =
+              let before : anyBelow (noPlaceOn f map (query (map .count) xs n (start + r))) a ≡ true = rw e (w .refused (omega arith)) in
+              rw (add-one a, before) (or-true (noPlaceOn f map (query (map .count) xs n (start + r)) a))
+          go g (inr l) = rw (add-one a, on-axis r (p .stopped l))
 
       module _ {cap : ℕ} {rows rows′ : List Float} (most : good ≤ cap) where
         rows-on : (entry : ℕ → List Float) (row : List Float → ℕ → List Float) → ((k : ℕ) → k < r → entry k ≡ row (query (map .count) xs n (start + k)) a)
@@ -134,7 +140,7 @@ module _ (f : Format) (map : RegularMap) (xs : List Float) (n start m : ℕ) (fi
           length-firsts = e₁ ∙ w .length-firsts;
           length-sats = e₂ ∙ w .length-sats;
           length-ts = e₃ ∙ w .length-ts;
-          so-far = firsts-next f map xs n start few a h p (stride-at (map .count) (map .lens) a (r .strides-are) (omega (arith, few))) (w .so-far);
+          so-far = firsts-next f map xs n start few a h p (stride-at a r h) (w .so-far);
         }
 
   pub weighing-done : {firsts sats : List ℕ} {ts : List Float} {good a : ℕ} → Weighing firsts sats ts good a → map .count ≤ a → FirstsTo f map xs n start m (map .count) good firsts
@@ -157,7 +163,7 @@ module _ (f : Format) (map : RegularMap) (xs : List Float) (n start : ℕ) {ss :
   pub only-firsts : ((k : ℕ) → k < m → getD firsts k 0 ≡ 0) → FirstsTo f map xs n start m 1 good firsts′
   only-firsts zeros =
       let u = ready .shape in
-      firsts-next f map xs n start (u .at-most-four) 0 (omega (arith, u .some-axis)) at-start (stride-at (map .count) (map .lens) 0 (ready .strides-are) (omega arith)) (firsts-start f map xs n start zeros)
+      firsts-next f map xs n start (u .at-most-four) 0 (omega (arith, u .some-axis)) at-start (stride-at 0 ready (u .some-axis)) (firsts-start f map xs n start zeros)
 
   pub only-slopes : {cap : ℕ} {rows rows′ : List Float} → m ≤ cap → RowsPut (slopeRow f (map .linear) (getD (map .steps) 0 nan) sats ts) 0 good rows rows′
       → RowsTo (slopesOn f map) (map .count) xs n start cap 1 good rows′

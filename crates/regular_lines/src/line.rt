@@ -8,7 +8,8 @@ ghost use Rattle.shape.specs.Cells.{put, from, onLine, line, writeLine};
 ghost use Rattle.shape.specs.Fit.{lineScratch};
 ghost use Rattle.shape.specs.Refusal.{answerNumber};
 ghost use Rattle.multibspline.specs.Thomas as Thomas;
-ghost use Rattle.multibspline.specs.Thomas.{reduce, reducedOf, withRow};
+ghost use Rattle.multibspline.specs.Thomas.{reduce, withReduced};
+ghost use Rattle.multibspline.specs.Records.{reducedOf};
 ghost use Rattle.regular_lines.specs.Rows.{firstRow, innerRow, lastRow, reduced, upperNumber, coefficient};
 ghost use Rattle.regular_lines.specs.Line.{LineSolved};
 use multibspline::Reduced;
@@ -46,7 +47,7 @@ fn inner_row(
     requires { ⌜ (i < n) × (onLine base stride (n - 1) < length (now coeffs)) ⌝ }
     requires { ⌜ (n ≤ m) × (m + n ≤ length (now scratch)) ⌝ }
     ensures { λ r. ⌜ reducedOf r ≡ reduce binary64 (innerRow binary64 (line nan base stride (now (coeffs .entry))) i) (reducedOf «before») ⌝ }
-    ensures { λ r. ⌜ now (scratch .exit) ≡ withRow m i (reducedOf r) (now (scratch .entry)) ⌝ }
+    ensures { λ r. ⌜ now (scratch .exit) ≡ withReduced m i (reducedOf r) (now (scratch .entry)) ⌝ }
 {
     let y = entry(base, stride, n, i, coeffs);
     eliminate(i, m, 1.0, 4.0, 1.0, 6.0 * y, before, scratch)
@@ -88,7 +89,7 @@ fn last_row(
 )
     requires { ⌜ (4 ≤ n) × (onLine base stride (n - 1) < length (now coeffs)) ⌝ }
     requires { ⌜ (n ≤ m) × (m + n ≤ length (now scratch)) ⌝ }
-    ensures { λ _. ⌜ now (scratch .exit) ≡ withRow m (n - 1) (reduce binary64 (lastRow binary64 (line nan base stride (now (coeffs .entry))) (n - 1)) (reducedOf «before»)) (now (scratch .entry)) ⌝ }
+    ensures { λ _. ⌜ now (scratch .exit) ≡ withReduced m (n - 1) (reduce binary64 (lastRow binary64 (line nan base stride (now (coeffs .entry))) (n - 1)) (reducedOf «before»)) (now (scratch .entry)) ⌝ }
 {
     let last = n - 1;
     let y = entry(base, stride, n, last, coeffs);

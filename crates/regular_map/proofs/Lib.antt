@@ -1,3 +1,4 @@
 pub mod Steps
 pub mod Builds
 pub mod Total
+pub mod InUse

@@ -1,28 +1,26 @@
 -- Demand 1 for the calls on a regular map. Assumes nothing.
 use mathlib.Core.Path.{_≡_, refl, sym, _∙_}
-use mathlib.Core.Logic.{_≢_, _↔_, _⊎_, inl, inr}
+use mathlib.Core.Logic.{_≢_, _↔_}
 use mathlib.Core.Bool.{Bool, true, false, cond, not}
 use mathlib.Core.List.{List, [], _∷_}
 use Prim.Native.Nat.{ℕ, zero, suc, _<_}
-use native.Mathlib.Nat.{eq-or-lt-of-le, le-of-suc-le-suc, not-suc-le-zero}
+use native.Mathlib.Nat.{le-of-suc-le-suc, not-suc-le-zero}
 use native.Mathlib.Omega.{arith}
 use lib.ListN.{length, take, getD}
 use lib.Seq.{length-take-le, getD-take}
 use lib.Ieee.{Float, Format, nan, lt}
 use Rattle.shape.specs.Checks.{refuse, firstRefusal, regularFitChecks, Positive}
-use Rattle.shape.specs.Sizes.{strideOf}
 use Rattle.shape.specs.declared.answers.Answer.the-variants.{Accepted}
 use Rattle.shape.proofs.Lengths.{or-false}
+use Rattle.shape.proofs.Below.{apart, none-at, any-none}
 use Rattle.shape.proofs.Accepted.{prefix-passed, usable-accepted, storage-is}
 use Rattle.multibspline.specs.Numbers.{f0}
 use Rattle.regular_weights.specs.declared.place.Loc.{Loc}
 use Rattle.regular_weights.specs.declared.place.Loc.the-variants as Loc
 use Rattle.evaluation.specs.Axes.{query}
 use Rattle.evaluation.proofs.Total as Evaluation
-use Rattle.regular_blocks.specs.First.{First}
-use Rattle.regular_blocks.specs.First as First
 use Rattle.regular_blocks.specs.Map.{RegularMap}
-use Rattle.regular_blocks.specs.Eval.{locOn, firstOn, onward, isRefused, refuses}
+use Rattle.regular_blocks.specs.Eval.{isUnrepresentable, locOn, noPlaceOn, refuses}
 use Rattle.regular_blocks.specs.Checks.{anyStepBad, mapChecks, mapAnswer, fromValuesAnswer, regular}
 use Rattle.regular_map.specs.Total.{Sound, Representable, MapTotal, FromValuesTotal, OneTotal, BatchTotal, GradientBatchTotal}
 use Rattle.regular_map.proofs.Steps.{map-steps, map-numbered, map-usable, map-sized}
@@ -81,35 +79,17 @@ from-values-total count lens steps samples coefs scratch four four′ = (
 
 -- ---- the places
 
+placed : (l : Loc) → l ≢ Loc.Unrepresentable → isUnrepresentable l ≡ false
+placed (Loc.At sat origin) h = refl
+placed Loc.Unrepresentable h = absurd (h refl)
+
 module _ (f : Format) (m : RegularMap) (x : List Float) where
-  apart : {i : ℕ} → First.Unrepresentable ≡ First.At i → ⊥
-  apart e = let z : _≡_ {A = ℕ} 0 1 = cc in omega arith
-
-  each : (n : ℕ) → isRefused (firstOn f m x n) ≡ false → (a : ℕ) → a < n → locOn f m x a ≢ Loc.Unrepresentable
-  unfolding firstOn
-  each zero e a h = absurd (not-suc-le-zero h)
-  each (suc n) e a h = go (firstOn f m x n) (locOn f m x n) refl refl e (eq-or-lt-of-le (le-of-suc-le-suc h)) (λ k l. each n k a l)
-    where
-      go : (p : First) (l : Loc) → firstOn f m x n ≡ p → locOn f m x n ≡ l → isRefused (onward f m x (strideOf (m .count) (m .lens) n) p l) ≡ false → (a ≡ n) ⊎ (a < n)
-          → (isRefused (firstOn f m x n) ≡ false → a < n → locOn f m x a ≢ Loc.Unrepresentable) → locOn f m x a ≢ Loc.Unrepresentable
-      go First.Unrepresentable l ep el w side ih = absurd (let z : _≡_ {A = ℕ} 0 1 = cc in let q : ⊥ = omega arith in q)
-      go (First.At i) Loc.Unrepresentable ep el w side ih = absurd (let z : _≡_ {A = ℕ} 0 1 = cc in let q : ⊥ = omega arith in q)
-      go (First.At i) (Loc.At sat origin) ep el w (inl same) ih = rw same (λ bad. let z : _≡_ {A = ℕ} 0 1 = cc in let q : ⊥ = omega arith in q)
-      go (First.At i) (Loc.At sat origin) ep el w (inr less) ih = ih (rw ep) less
-
-  all : (n : ℕ) → ((a : ℕ) → a < n → locOn f m x a ≢ Loc.Unrepresentable) → isRefused (firstOn f m x n) ≡ false
-  unfolding firstOn
-  all zero h = refl
-  all (suc n) h = go (firstOn f m x n) (locOn f m x n) refl refl (all n (λ a k. h a (omega arith)))
-    where
-      go : (p : First) (l : Loc) → firstOn f m x n ≡ p → locOn f m x n ≡ l → isRefused (firstOn f m x n) ≡ false → isRefused (onward f m x (strideOf (m .count) (m .lens) n) p l) ≡ false
-      go First.Unrepresentable l ep el w = absurd (let z : _≡_ {A = ℕ} 0 1 = cc in let q : ⊥ = omega arith in q)
-      go (First.At i) Loc.Unrepresentable ep el w = absurd (h n (omega arith) el)
-      go (First.At i) (Loc.At sat origin) ep el w = refl
-
   pub representable : (refuses f m x ≡ false) ↔ Representable f m x
   unfolding refuses
-  representable = (each (m .count), all (m .count))
+  representable = (
+    (λ e a h bad. apart (noPlaceOn f m x a) (rw bad) (none-at (noPlaceOn f m x) (m .count) e a h)),
+    (λ h. any-none (noPlaceOn f m x) (m .count) (λ a k. placed (locOn f m x a) (h a k))),
+  )
 
 -- ---- the calls that evaluate: the checks of the map, and its queries
 

@@ -1,19 +1,12 @@
--- The map that a record of the code stands for, and what the functions that build one leave. Assumes nothing.
+-- What the functions that build a regular map leave. Assumes nothing.
 use mathlib.Core.Bool.{Bool, false}
 use mathlib.Core.List.{List, [], _∷_}
 use Prim.Native.Nat.{ℕ}
 use lib.Ieee.{Float, nan}
 use Rattle.multibspline.specs.Numbers.{f0}
-use Rattle.shape.specs.Refusal.{answerNumber}
 use Rattle.evaluation.specs.Axes.{inUse, zeros}
 use Rattle.evaluation.specs.Built.{BuiltFrom}
 use Rattle.regular_blocks.specs.Map.{RegularMap}
-use Rattle.regular_map.specs.declared.record.MultiBsplineRegular.{MultiBsplineRegular}
-use Rattle.regular_map.specs.declared.record.Built.{Built}
-
--- the map that a record of the code stands for
-abbrev pub mapOf : MultiBsplineRegular → RegularMap
-mapOf r = record { count = r .count; lens = r .dims; starts = r .starts; steps = r .steps; linear = r .«linearize_extrapolation» }
 
 -- the map that building makes, and nothing but zeros
 unfoldable pub made : ℕ → List ℕ → List Float → List Float → Bool → RegularMap
@@ -29,5 +22,5 @@ abbrev pub blank : RegularMap
 blank = record { count = 0; lens = 0 ∷ 0 ∷ 0 ∷ 0 ∷ []; starts = zeros; steps = zeros; linear = false }
 
 -- a function that builds a map, and answers so
-abbrev pub RegularBuilt : ℕ → ℕ → List ℕ → List Float → List Float → Bool → Built → Type 0
-RegularBuilt expected count lens starts steps linear r = BuiltFrom expected (made count lens starts steps linear) blank (answerNumber (r .answer)) (mapOf (r .map))
+abbrev pub RegularBuilt : ℕ → ℕ → List ℕ → List Float → List Float → Bool → ℕ → RegularMap → Type 0
+RegularBuilt expected count lens starts steps linear answer handed = BuiltFrom expected (made count lens starts steps linear) blank answer handed

@@ -8,7 +8,8 @@ ghost use lib.Ieee.{binary64};
 ghost use Rattle.shape.specs.Checks.{firstRefusal, regularFitChecks};
 ghost use Rattle.multibspline.specs.Numbers.{f0};
 ghost use Rattle.regular.specs.Fit.{RegularFitted};
-ghost use Rattle.regular_map.specs.Map.{mapOf, made, blank, RegularBuilt};
+ghost use Rattle.regular_map.specs.Map.{made, blank, RegularBuilt};
+ghost use Rattle.regular_map.specs.Records.{mapOf};
 ghost use Rattle.shape.specs.Refusal.{answerNumber, refusalNumber};
 ghost use Rattle.regular_blocks.specs.Checks.{anyStepBad, mapAnswer, fromValuesAnswer};
 use crate::record::Built;
@@ -111,7 +112,7 @@ pub fn build(
     linear: bool,
     coeffs: usize,
 ) -> Built
-    ensures { λ r. ⌜ RegularBuilt (mapAnswer count dims steps coeffs) count dims starts steps linear r ⌝ }
+    ensures { λ r. ⌜ RegularBuilt (mapAnswer count dims steps coeffs) count dims starts steps linear (answerNumber (r .answer)) (mapOf (r .map)) ⌝ }
 {
     if let Answer::Refused(refusal) = check_map(count, dims, steps, coeffs) {
         return refused(refusal);
@@ -129,7 +130,7 @@ pub fn from_values(
     coeffs: &mut [f64],
     scratch: &mut [f64],
 ) -> Built
-    ensures { λ r. ⌜ RegularBuilt (fromValuesAnswer count dims steps (length (now (vals .entry))) (length (now (coeffs .entry))) (length (now (scratch .entry)))) count dims starts steps linear r ⌝ }
+    ensures { λ r. ⌜ RegularBuilt (fromValuesAnswer count dims steps (length (now (vals .entry))) (length (now (coeffs .entry))) (length (now (scratch .entry)))) count dims starts steps linear (answerNumber (r .answer)) (mapOf (r .map)) ⌝ }
     ensures { λ r. ⌜ RegularFitted binary64 count dims (now (vals .entry)) (now (coeffs .entry)) (now (scratch .entry)) (firstRefusal (regularFitChecks count dims (length (now (vals .entry))) (length (now (coeffs .entry))) (length (now (scratch .entry))))) (now (coeffs .exit)) (now (scratch .exit)) ⌝ }
 {
     let shape = Shape { count, dims };

@@ -1,6 +1,7 @@
 // The value and the gradient of a regular map at a single query.
 ghost use lib.Ieee.{binary64};
 ghost use Rattle.shape.specs.Refusal.{answerNumber};
+ghost use Rattle.evaluation.specs.Records.{valuedNumber, valuedValue};
 ghost use Rattle.evaluation.specs.Spline.{OneValue, OneGradient};
 ghost use Rattle.regular_blocks.specs.Checks.{regular};
 use crate::build::check_map;
@@ -22,7 +23,7 @@ pub fn one(
     coeffs: &[f64],
     x: &[f64],
 ) -> Valued
-    ensures { λ r. ⌜ OneValue (regular binary64 (record { count = count; lens = dims; starts = starts; steps = steps; linear = linear }) (now (coeffs .entry))) (now (x .entry)) r ⌝ }
+    ensures { λ r. ⌜ OneValue (regular binary64 (record { count = count; lens = dims; starts = starts; steps = steps; linear = linear }) (now (coeffs .entry))) (now (x .entry)) (valuedNumber r) (valuedValue r) ⌝ }
 {
     if let Answer::Refused(refusal) = check_map(count, dims, steps, coeffs.len()) {
         return Valued::Refused(refusal);

@@ -4,9 +4,11 @@ ghost use lib.Ieee.{binary64};
 ghost use Rattle.shape.specs.Checks.{firstRefusal, regularFitChecks};
 ghost use Rattle.shape.specs.Refusal.{answerNumber};
 ghost use Rattle.regular.specs.Fit.{RegularFitted};
+ghost use Rattle.evaluation.specs.Records.{valuedNumber, valuedValue};
 ghost use Rattle.evaluation.specs.Spline.{OneValue, OneGradient};
 ghost use Rattle.evaluation.specs.Batch.{ValueBatch, GradientBatch};
-ghost use Rattle.regular_map.specs.Map.{mapOf, RegularBuilt};
+ghost use Rattle.regular_map.specs.Map.{RegularBuilt};
+ghost use Rattle.regular_map.specs.Records.{mapOf};
 ghost use Rattle.regular_blocks.specs.Checks.{mapAnswer, fromValuesAnswer, regular};
 use crate::batch;
 use crate::build;
@@ -39,7 +41,7 @@ impl MultiBsplineRegular {
     // length of the coefficients; 5, a step not above zero; 2, the number of coordinates; 6, a coordinate whose cell cannot
     // be represented.
     pub fn interp_one(self, coeffs: &[f64], x: &[f64]) -> Valued
-        ensures { λ r. ⌜ OneValue (regular binary64 (mapOf self) (now (coeffs .entry))) (now (x .entry)) r ⌝ }
+        ensures { λ r. ⌜ OneValue (regular binary64 (mapOf self) (now (coeffs .entry))) (now (x .entry)) (valuedNumber r) (valuedValue r) ⌝ }
     {
         let dims = self.dims;
         let starts = self.starts;
@@ -123,7 +125,7 @@ impl MultiBsplineRegular {
         coeffs: &[f64],
         linearize_extrapolation: bool,
     ) -> Built
-        ensures { λ r. ⌜ RegularBuilt (mapAnswer (shape .count) (shape .dims) steps (length (now (coeffs .entry)))) (shape .count) (shape .dims) starts steps «linearize_extrapolation» r ⌝ }
+        ensures { λ r. ⌜ RegularBuilt (mapAnswer (shape .count) (shape .dims) steps (length (now (coeffs .entry)))) (shape .count) (shape .dims) starts steps «linearize_extrapolation» (answerNumber (r .answer)) (mapOf (r .map)) ⌝ }
     {
         let dims = shape.dims;
         build::build(
@@ -147,7 +149,7 @@ impl MultiBsplineRegular {
         scratch: &mut [f64],
         linearize_extrapolation: bool,
     ) -> Built
-        ensures { λ r. ⌜ RegularBuilt (fromValuesAnswer (shape .count) (shape .dims) steps (length (now (vals .entry))) (length (now (coeffs .entry))) (length (now (scratch .entry)))) (shape .count) (shape .dims) starts steps «linearize_extrapolation» r ⌝ }
+        ensures { λ r. ⌜ RegularBuilt (fromValuesAnswer (shape .count) (shape .dims) steps (length (now (vals .entry))) (length (now (coeffs .entry))) (length (now (scratch .entry)))) (shape .count) (shape .dims) starts steps «linearize_extrapolation» (answerNumber (r .answer)) (mapOf (r .map)) ⌝ }
         ensures { λ r. ⌜ RegularFitted binary64 (shape .count) (shape .dims) (now (vals .entry)) (now (coeffs .entry)) (now (scratch .entry)) (firstRefusal (regularFitChecks (shape .count) (shape .dims) (length (now (vals .entry))) (length (now (coeffs .entry))) (length (now (scratch .entry))))) (now (coeffs .exit)) (now (scratch .exit)) ⌝ }
     {
         let dims = shape.dims;

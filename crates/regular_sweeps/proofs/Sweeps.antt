@@ -12,7 +12,7 @@ use lib.Ieee.{Float, Format}
 use Rattle.multibspline.specs.Numbers.{f0, f1}
 use Rattle.multibspline.specs.Thomas.{Reduced, at, reduce}
 use Rattle.multibspline.proofs.Sweeps.{back-here}
-use Rattle.lanes.specs.Lanes.{zeros, Uppers, lessCell, stepCell, backCell}
+use Rattle.lanes.specs.Lanes.{zeroSamples, Uppers, lessCell, stepCell, backCell}
 use Rattle.lanes.proofs.Solving.{Scheme}
 use Rattle.regular_lines.specs.Rows.{innerRow, lastRow, reduced, upperNumber, coefficient}
 use Rattle.regular_sweeps.specs.Sweeps.{differCell, innerCell, innerDenom, lastDenom, innerAt, lastAt, upperNext}
@@ -30,7 +30,7 @@ pub upper-same : (f : Format) (n : ℕ) (y z : ℕ → Float) (i : ℕ) → uppe
 upper-same f n y z zero = refl
 upper-same f n y z (suc i) = reduce-upper f y z (suc i) (eqb (suc i) (n - 1)) (reduced f n y i) (reduced f n z i) (upper-same f n y z i)
 
-pub upper-first : (f : Format) (n : ℕ) (x : Float) → upperNext f n 0 x ≡ upperNumber f n zeros 0
+pub upper-first : (f : Format) (n : ℕ) (x : Float) → upperNext f n 0 x ≡ upperNumber f n zeroSamples 0
 unfolding upperNext
 upper-first f n x = refl
 
@@ -39,9 +39,9 @@ reduce-next : (f : Format) (y : ℕ → Float) (i : ℕ) (b : Bool) (p : Reduced
 reduce-next f y i true p = refl
 reduce-next f y i false p = refl
 
-pub upper-next : (f : Format) (n i : ℕ) → upperNext f n (suc i) (upperNumber f n zeros i) ≡ upperNumber f n zeros (suc i)
+pub upper-next : (f : Format) (n i : ℕ) → upperNext f n (suc i) (upperNumber f n zeroSamples i) ≡ upperNumber f n zeroSamples (suc i)
 unfolding upperNext
-upper-next f n i = rw (ne-eqb (suc i) 0 (λ e. omega arith)) (reduce-next f zeros (suc i) (eqb (suc i) (n - 1)) (reduced f n zeros i))
+upper-next f n i = rw (ne-eqb (suc i) 0 (λ e. omega arith)) (reduce-next f zeroSamples (suc i) (eqb (suc i) (n - 1)) (reduced f n zeroSamples i))
 
 -- ---- the scheme
 

@@ -5,7 +5,7 @@ ghost use lib.ListN.{length, set};
 ghost use lib.Ieee.{binary64};
 ghost use Rattle.shape.specs.Cells.{put, from};
 ghost use Rattle.multibspline.specs.Thomas.{at};
-ghost use Rattle.lanes.specs.Lanes.{zeros};
+ghost use Rattle.lanes.specs.Lanes.{zeroSamples};
 ghost use Rattle.regular_lines.specs.Rows.{upperNumber};
 ghost use Rattle.regular_sweeps.specs.Sweeps.{upperNext};
 
@@ -24,7 +24,7 @@ fn next_upper(n: usize, i: usize, upper: &mut [f64])
 
 pub fn upper_numbers(n: usize, upper: &mut [f64])
     requires { ⌜ n ≤ length (now upper) ⌝ }
-    ensures { λ _. ⌜ now (upper .exit) ≡ put (from 0) (upperNumber binary64 n zeros) n (now (upper .entry)) ⌝ }
+    ensures { λ _. ⌜ now (upper .exit) ≡ put (from 0) (upperNumber binary64 n zeroSamples) n (now (upper .entry)) ⌝ }
 {
     for i in 0..n {
         next_upper(n, i, upper);

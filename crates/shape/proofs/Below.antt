@@ -76,6 +76,11 @@ module _ (test : ℕ → Bool) where
   pub one-found : (n i : ℕ) → i < n → test i ≡ true → true ≡ anyBelow test n
   one-found n i h t = sym (any-at n i h t)
 
+pub any-ext : (p q : ℕ → Bool) (n : ℕ) → ((i : ℕ) → i < n → p i ≡ q i) → anyBelow p n ≡ anyBelow q n
+unfolding anyBelow
+any-ext p q zero f = refl
+any-ext p q (suc n) f = rw (f n (omega arith), any-ext p q n (λ i h. f i (omega arith)))
+
 -- ---- at all numbers below n
 
 module _ (test : ℕ → Bool) where

@@ -1,6 +1,6 @@
 use mathlib.Core.Path.{_∙_}
 use denote.Ref.{now}
-use Rattle.capi_parts.specs.Regular.{readyChecks}
+use Rattle.capi_parts.specs.Regular.{gridReadyChecks}
 use Rattle.capi_parts.proofs.Guards.{refused-some}
 use Rattle.capi_parts.proofs.Evaluated.{regular-checked}
 use borrow.Author.Needs.{needs}
@@ -17,7 +17,7 @@ returns : tie.Need-returns
 returns c =
     let a = (c .before .before .before .before .before) .args in
     let told = (c .before) .number .ensures ∙ (c .before .before) .check-grid .ensures in
-    refused-some (readyChecks (now (a .dims)) (now (a .grid))) _ _ told (c .if1 .taken)
+    refused-some (gridReadyChecks (now (a .dims)) (now (a .grid))) _ _ told (c .if1 .taken)
 
 map-of-requires : tie.Need-regular-map-of-requires
 map-of-requires c κs = search needs

@@ -1,7 +1,7 @@
 use mathlib.Core.Path.{sym, _∙_}
 use denote.Ref.{now}
 use lib.ListN.{length}
-use Rattle.capi_parts.specs.Regular.{readyChecks, fitChecks}
+use Rattle.capi_parts.specs.Regular.{gridReadyChecks, fitChecks}
 use Rattle.capi_parts.proofs.Guards.{refused-some, fitted-nothing}
 use Rattle.capi_parts.proofs.Evaluated.{fit-dropped, values-dropped}
 use borrow.Author.Needs.{needs}
@@ -18,7 +18,7 @@ returns : tie.Need-returns
 returns c =
     let a = (c .before .before .before .before .before .before .before .before) .args in
     let told = (c .before) .number .ensures ∙ (c .before .before) .check-grid .ensures in
-    let e = refused-some (readyChecks (now (a .dims)) (now (a .grid))) _ _ told (c .if1 .taken) in
+    let e = refused-some (gridReadyChecks (now (a .dims)) (now (a .grid))) _ _ told (c .if1 .taken) in
     record { answers = refused-some (fitChecks (now (a .dims)) (now (a .grid)) (length (now (a .vals))) (length (now (a .coeffs))) (length (now (a .scratch)))) _ _ e (c .if1 .taken); fits = fitted-nothing (c .if1 .taken) e }
 
 shape-of-requires : tie.Need-shape-of-requires

@@ -2,7 +2,7 @@ use mathlib.Core.Path.{_∙_}
 use denote.Ref.{now}
 use lib.Ieee.{binary64}
 use Rattle.capi_parts.specs.Inputs.{isOn}
-use Rattle.capi_parts.specs.Regular.{readyChecks, regularSpline}
+use Rattle.capi_parts.specs.Regular.{gridReadyChecks, regularSpline}
 use native.Mathlib.Omega.{arith}
 use Rattle.capi_parts.proofs.Guards.{refused-some, wrote-nothing, slopes-not, slopes-wrote}
 use Rattle.capi_parts.proofs.Evaluated.{at-most-four, regular-gradient}
@@ -31,7 +31,7 @@ returns-2 : tie.Need-returns-2
 returns-2 c =
     let a = (c .before .before .before .before .before .before .before .before .before) .args in
     let told = (c .before) .number .ensures ∙ (c .before .before) .check-grid .ensures in
-    wrote-nothing (c .if2 .taken) (slopes-not (c .if2 .taken) (regularSpline binary64 (now (a .dims)) (now (a .grid)) (isOn (a .linear)) (now (a .coeffs))) (refused-some (readyChecks (now (a .dims)) (now (a .grid))) _ _ told (c .if2 .taken)) _ (now (a .x)))
+    wrote-nothing (c .if2 .taken) (slopes-not (c .if2 .taken) (regularSpline binary64 (now (a .dims)) (now (a .grid)) (isOn (a .linear)) (now (a .coeffs))) (refused-some (gridReadyChecks (now (a .dims)) (now (a .grid))) _ _ told (c .if2 .taken)) _ (now (a .x)))
 
 map-of-requires : tie.Need-regular-map-of-requires
 map-of-requires c κs = search needs

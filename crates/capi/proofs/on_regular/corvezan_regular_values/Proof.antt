@@ -2,7 +2,7 @@ use mathlib.Core.Path.{_∙_}
 use denote.Ref.{now}
 use lib.Ieee.{binary64}
 use Rattle.capi_parts.specs.Inputs.{isOn}
-use Rattle.capi_parts.specs.Regular.{readyChecks, regularSpline}
+use Rattle.capi_parts.specs.Regular.{gridReadyChecks, regularSpline}
 use Rattle.capi_parts.proofs.Guards.{refused-some, values-not}
 use Rattle.capi_parts.proofs.Evaluated.{regular-values}
 use borrow.Author.Needs.{needs}
@@ -19,7 +19,7 @@ returns : tie.Need-returns
 returns c =
     let a = (c .before .before .before .before .before .before .before .before) .args in
     let told = (c .before) .number .ensures ∙ (c .before .before) .check-grid .ensures in
-    values-not (c .if1 .taken) (regularSpline binary64 (now (a .dims)) (now (a .grid)) (isOn (a .linear)) (now (a .coeffs))) (refused-some (readyChecks (now (a .dims)) (now (a .grid))) _ _ told (c .if1 .taken)) (now (a .x)) (now (a .values))
+    values-not (c .if1 .taken) (regularSpline binary64 (now (a .dims)) (now (a .grid)) (isOn (a .linear)) (now (a .coeffs))) (refused-some (gridReadyChecks (now (a .dims)) (now (a .grid))) _ _ told (c .if1 .taken)) (now (a .x)) (now (a .values))
 
 map-of-requires : tie.Need-regular-map-of-requires
 map-of-requires c κs = search needs

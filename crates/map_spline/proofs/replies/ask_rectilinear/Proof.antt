@@ -1,7 +1,7 @@
 use borrow.Author.Needs.{needs}
 use native.Mathlib.Omega.{arith}
 use lib.Ieee.{binary64}
-use Rattle.rectilinear_blocks.specs.Map.{ghosts}
+use Rattle.rectilinear_blocks.specs.Records.{ghosts}
 use Rattle.map_spline.specs.Surface.{rectilinearSurface}
 use Rattle.map_spline.proofs.Asking.{replied, replied-refused, rectilinear-asked}
 use Rattle.map_spline.proofs.replies.ask_rectilinear.Statement.{statement}

@@ -4,7 +4,7 @@ use denote.Ref.{now}
 use lib.ListN.{length}
 use lib.Ieee.{binary64}
 use Rattle.lanes.proofs.Groups.{lone-coefs, lone-leaves}
-use Rattle.rectilinear_weights.specs.Ghosts.{ghostNumbers}
+use Rattle.rectilinear_weights.specs.Records.{ghostNumbers}
 use Rattle.rectilinear_lines.specs.Rows.{coefficient, upperNumber}
 use Rattle.rectilinear.proofs.fit.solve_lines.Statement.{statement}
 use Rattle.rectilinear.proofs.fit.solve_lines.Tie as tie

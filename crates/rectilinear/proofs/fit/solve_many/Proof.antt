@@ -6,7 +6,7 @@ use lib.Ieee.{binary64}
 use Rattle.shape.proofs.Lines.{first-cell-room}
 use Rattle.lanes.specs.Lanes.{zeros}
 use Rattle.lanes.proofs.Groups.{lines-room, uppers-hold, keep-room, axis-leaves}
-use Rattle.rectilinear_weights.specs.Ghosts.{ghostNumbers}
+use Rattle.rectilinear_weights.specs.Records.{ghostNumbers}
 use Rattle.rectilinear_lines.specs.Rows.{coefficient, upperNumber}
 use Rattle.rectilinear_lines.proofs.Rows.{looks-coefficient}
 use Rattle.rectilinear_sweeps.proofs.Sweeps.{upper-same}

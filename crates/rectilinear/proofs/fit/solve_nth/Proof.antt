@@ -3,7 +3,7 @@ use lib.ListN.{length}
 use lib.Ieee.{binary64, nan}
 use borrow.Author.Needs.{needs}
 use Rattle.shape.proofs.Lines.{first-cell-room, line-room, nth-coefs, nth-scratch}
-use Rattle.rectilinear_weights.specs.Ghosts.{ghostNumbers}
+use Rattle.rectilinear_weights.specs.Records.{ghostNumbers}
 use Rattle.rectilinear_lines.specs.Rows.{coefficient, upperNumber}
 use Rattle.rectilinear.proofs.fit.solve_nth.Statement.{statement}
 use Rattle.rectilinear.proofs.fit.solve_nth.Tie as tie

@@ -5,6 +5,7 @@ use lib.ListN.{length}
 use borrow.Author.Needs.{needs}
 use Rattle.evaluation.proofs.Entries.{stride-at}
 use Rattle.rectilinear_blocks.proofs.Places.{axis-sound}
+use Rattle.rectilinear_blocks.proofs.Figures.{ready}
 use Rattle.rectilinear_blocks.proofs.Blocks.{axis-inside, counts-on, moved-small, firsts-next}
 use Rattle.rectilinear_blocks.proofs.axes.place_axis.Statement.{statement}
 use Rattle.rectilinear_blocks.proofs.axes.place_axis.Tie as tie
@@ -30,7 +31,7 @@ move-firsts-requires c κs =
     let r = s .pre .0 .0 in (
       (axis-sound (a .count) (a .dims) (now (a .grid)) (r .four) (r .gridded) (a .a) (s .pre .0 .1) (k .axis-knots .ensures) .0, omega (arith, s .pre .1 .0), s .pre .1 .1),
       moved-small (a .count) (a .dims) (now (a .grid)) (now (a .xs)) (a .n) (a .from) (r .four) (r .gridded) (a .a) (s .pre .0 .1) (k .axis-knots .ensures) (p .put-counts .ensures) (s .pre .1 .2)
-          (stride-at (a .count) (a .dims) (a .a) (r .strides-are) (omega (arith, s .pre .0 .1, r .gridded .shape .at-most-four))),
+          (stride-at (a .a) (ready r) (s .pre .0 .1)),
     )
 
 returns : tie.Need-returns
@@ -43,7 +44,7 @@ returns c =
     let r = s .pre .0 .0 in (
       counts-on (a .count) (a .dims) (now (a .grid)) (now (a .xs)) (a .n) (a .from) (a .a) (k .axis-knots .ensures) (p .put-counts .ensures),
       firsts-next (a .count) (a .dims) (now (a .grid)) (now (a .xs)) (a .n) (a .from) (r .four) (r .gridded) (a .a) (s .pre .0 .1) (k .axis-knots .ensures) (p .put-counts .ensures) (s .pre .1 .2)
-          (stride-at (a .count) (a .dims) (a .a) (r .strides-are) (omega (arith, s .pre .0 .1, r .gridded .shape .at-most-four))) (f .move-firsts .ensures),
+          (stride-at (a .a) (ready r) (s .pre .0 .1)) (f .move-firsts .ensures),
     )
 
 pub place-axis-spec : {M : Type 1} → statement M

@@ -5,7 +5,7 @@ use native.Mathlib.Omega.{arith}
 use denote.Ref.{now}
 use lib.ListN.{length}
 use lib.Ieee.{binary64}
-use Rattle.rectilinear_blocks.specs.Map.{ghosts}
+use Rattle.rectilinear_blocks.specs.Records.{ghosts}
 use Rattle.rectilinear_axis.specs.Axis.{Holds}
 use Rattle.evaluation.specs.Block.{Weighed}
 use Rattle.rectilinear_blocks.specs.Block.{firstAt, weightsFor}

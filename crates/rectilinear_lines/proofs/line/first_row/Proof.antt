@@ -2,7 +2,7 @@ use borrow.Author.Needs.{needs}
 use denote.Ref.{now}
 use lib.Ieee.{binary64, nan}
 use Rattle.shape.specs.Cells.{line}
-use Rattle.rectilinear_weights.specs.Ghosts.{ghostNumbers}
+use Rattle.rectilinear_weights.specs.Records.{ghostNumbers}
 use Rattle.rectilinear_lines.proofs.Rows.{first-is}
 use Rattle.rectilinear_lines.proofs.line.first_row.Statement.{statement}
 use Rattle.rectilinear_lines.proofs.line.first_row.Tie as tie

@@ -3,9 +3,9 @@ use denote.Ref.{now}
 use lib.ListN.{length}
 use lib.Ieee.{binary64, nan}
 use Rattle.shape.specs.Cells.{line}
-use Rattle.multibspline.specs.Thomas.{reducedOf}
+use Rattle.multibspline.specs.Records.{reducedOf}
 use Rattle.multibspline.proofs.Sweeps.{elim-whole}
-use Rattle.rectilinear_weights.specs.Ghosts.{ghostNumbers}
+use Rattle.rectilinear_weights.specs.Records.{ghostNumbers}
 use Rattle.rectilinear_lines.specs.Rows.{firstRow, innerRow, row}
 use Rattle.rectilinear_lines.proofs.Rows.{row-last, row-inner}
 use Rattle.rectilinear_lines.proofs.line.forward.Statement.{statement}

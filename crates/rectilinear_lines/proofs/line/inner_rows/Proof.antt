@@ -5,7 +5,7 @@ use denote.Ref.{now}
 use lib.ListN.{length}
 use lib.Ieee.{binary64, nan}
 use Rattle.shape.specs.Cells.{line}
-use Rattle.multibspline.specs.Thomas.{reducedOf}
+use Rattle.multibspline.specs.Records.{reducedOf}
 use Rattle.multibspline.proofs.Sweeps.{Eliminated, elim-start, elim-step, elim-last, elim-done}
 use Rattle.rectilinear_lines.specs.Rows.{innerRow}
 use Rattle.rectilinear_lines.proofs.line.inner_rows.Statement.{statement}

@@ -4,9 +4,9 @@ use denote.Ref.{now}
 use lib.ListN.{length}
 use lib.Ieee.{binary64, nan}
 use Rattle.shape.specs.Cells.{line}
-use Rattle.multibspline.specs.Thomas.{reducedOf}
+use Rattle.multibspline.specs.Records.{reducedOf}
 use Rattle.multibspline.proofs.Sweeps.{row-kept}
-use Rattle.rectilinear_weights.specs.Ghosts.{ghostNumbers}
+use Rattle.rectilinear_weights.specs.Records.{ghostNumbers}
 use Rattle.rectilinear_lines.specs.Rows.{lastRow}
 use Rattle.rectilinear_lines.proofs.Rows.{last-is}
 use Rattle.rectilinear_lines.proofs.line.last_row.Statement.{statement}

@@ -6,7 +6,7 @@ use lib.ListN.{length}
 use lib.Ieee.{binary64, nan}
 use Rattle.shape.specs.Cells.{line, onLine}
 use Rattle.multibspline.proofs.Sweeps.{line-scratch, line-coeffs}
-use Rattle.rectilinear_weights.specs.Ghosts.{ghostNumbers}
+use Rattle.rectilinear_weights.specs.Records.{ghostNumbers}
 use Rattle.rectilinear_lines.specs.Rows.{firstRow, row}
 use Rattle.rectilinear_lines.proofs.line.solve_checked.Statement.{statement}
 use Rattle.rectilinear_lines.proofs.line.solve_checked.Tie as tie

@@ -1,5 +1,5 @@
 use borrow.Author.Needs.{needs}
-use Rattle.rectilinear_blocks.specs.Map.{ghosts}
+use Rattle.rectilinear_blocks.specs.Records.{ghosts}
 use Rattle.rectilinear_map.specs.Map.{highGhosts}
 use Rattle.rectilinear_map.proofs.build.high_ghosts.Statement.{statement}
 use Rattle.rectilinear_map.proofs.build.high_ghosts.Tie as tie

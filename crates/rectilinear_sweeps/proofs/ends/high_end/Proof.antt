@@ -1,7 +1,7 @@
 use borrow.Author.Needs.{needs}
 use denote.Ref.{now}
 use lib.Ieee.{binary64, ofBits}
-use Rattle.rectilinear_weights.specs.Ghosts.{ghostNumbers}
+use Rattle.rectilinear_weights.specs.Records.{ghostNumbers}
 use Rattle.rectilinear_sweeps.proofs.Sweeps.{high-end-is}
 use Rattle.rectilinear_sweeps.proofs.ends.high_end.Statement.{statement}
 use Rattle.rectilinear_sweeps.proofs.ends.high_end.Tie as tie

@@ -2,7 +2,7 @@ use mathlib.Core.Path.{refl}
 use borrow.Author.Needs.{needs}
 use denote.Ref.{now}
 use lib.Ieee.{binary64}
-use Rattle.rectilinear_weights.specs.Ghosts.{ghostNumbers}
+use Rattle.rectilinear_weights.specs.Records.{ghostNumbers}
 use Rattle.rectilinear_sweeps.proofs.Sweeps.{next-first, next-last, next-inner}
 use Rattle.rectilinear_sweeps.proofs.upper.next_upper.Statement.{statement}
 use Rattle.rectilinear_sweeps.proofs.upper.next_upper.Tie as tie

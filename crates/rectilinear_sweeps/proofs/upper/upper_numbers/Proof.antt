@@ -3,9 +3,9 @@ use borrow.Author.Needs.{needs}
 use denote.Ref.{now}
 use lib.ListN.{length}
 use lib.Ieee.{binary64}
-use Rattle.lanes.specs.Lanes.{zeros}
+use Rattle.lanes.specs.Lanes.{zeroSamples}
 use Rattle.lanes.proofs.Groups.{Filled, filled-start, uppers-step, filled-done}
-use Rattle.rectilinear_weights.specs.Ghosts.{ghostNumbers}
+use Rattle.rectilinear_weights.specs.Records.{ghostNumbers}
 use Rattle.rectilinear_lines.specs.Rows.{upperNumber}
 use Rattle.rectilinear_sweeps.specs.Sweeps.{upperNext}
 use Rattle.rectilinear_sweeps.proofs.Sweeps.{upper-first, upper-next}
@@ -13,7 +13,7 @@ use Rattle.rectilinear_sweeps.proofs.upper.upper_numbers.Statement.{sta
 use Rattle.rectilinear_sweeps.proofs.upper.upper_numbers.Tie as tie
 
 abbrev Inv : tie.InvT-loop
-Inv grid low-ghost high-ghost upper₀ i₀ i-end upper i = Filled 0 (upperNumber binary64 grid (ghostNumbers low-ghost) (ghostNumbers high-ghost) zeros) (length grid) upper₀ upper i
+Inv grid low-ghost high-ghost upper₀ i₀ i-end upper i = Filled 0 (upperNumber binary64 grid (ghostNumbers low-ghost) (ghostNumbers high-ghost) zeroSamples) (length grid) upper₀ upper i
 
 abbrev μ : tie.MeasureT-loop
 μ grid low-ghost high-ghost upper₀ i₀ i-end upper i = i-end - i

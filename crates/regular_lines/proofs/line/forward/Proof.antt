@@ -2,7 +2,7 @@ use borrow.Author.Needs.{needs}
 use denote.Ref.{now}
 use lib.Ieee.{binary64, nan}
 use Rattle.shape.specs.Cells.{line}
-use Rattle.multibspline.specs.Thomas.{reducedOf}
+use Rattle.multibspline.specs.Records.{reducedOf}
 use Rattle.multibspline.proofs.Sweeps.{elim-whole}
 use Rattle.regular_lines.specs.Rows.{firstRow, innerRow, row}
 use Rattle.regular_lines.proofs.Rows.{row-last, row-inner}

@@ -3,7 +3,8 @@ use lib.Ieee.{binary64, nan, ofBits}
 use borrow.Author.Needs.{needs}
 use denote.Ref.{now}
 use Rattle.shape.specs.Cells.{line}
-use Rattle.multibspline.specs.Thomas.{Row, reduce, reducedOf}
+use Rattle.multibspline.specs.Thomas.{Row, reduce}
+use Rattle.multibspline.specs.Records.{reducedOf}
 use Rattle.regular_lines.proofs.Rows.{inner-is}
 use Rattle.regular_lines.proofs.line.inner_row.Statement.{statement}
 use Rattle.regular_lines.proofs.line.inner_row.Tie as tie

@@ -4,7 +4,7 @@ use borrow.Author.Needs.{needs}
 use denote.Ref.{now}
 use lib.Ieee.{binary64, nan}
 use Rattle.shape.specs.Cells.{line}
-use Rattle.multibspline.specs.Thomas.{reducedOf}
+use Rattle.multibspline.specs.Records.{reducedOf}
 use Rattle.multibspline.proofs.Sweeps.{Eliminated, elim-start, elim-step, elim-last, elim-done}
 use Rattle.regular_lines.specs.Rows.{innerRow}
 use Rattle.regular_lines.proofs.line.inner_rows.Statement.{statement}

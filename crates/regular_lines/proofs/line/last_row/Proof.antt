@@ -3,7 +3,7 @@ use lib.Ieee.{binary64, nan, neg, ofBits}
 use borrow.Author.Needs.{needs}
 use denote.Ref.{now}
 use Rattle.shape.specs.Cells.{line}
-use Rattle.multibspline.specs.Thomas.{reducedOf}
+use Rattle.multibspline.specs.Records.{reducedOf}
 use Rattle.multibspline.proofs.Sweeps.{row-kept}
 use Rattle.regular_lines.specs.Rows.{lastRow}
 use Rattle.regular_lines.proofs.Rows.{last-is}

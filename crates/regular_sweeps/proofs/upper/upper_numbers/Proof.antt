@@ -2,7 +2,7 @@ use Prim.Native.Nat.{_-_}
 use borrow.Author.Needs.{needs}
 use lib.Ieee.{binary64}
 use Rattle.lanes.proofs.Groups.{Filled, filled-start, uppers-step, filled-done}
-use Rattle.lanes.specs.Lanes.{zeros}
+use Rattle.lanes.specs.Lanes.{zeroSamples}
 use Rattle.regular_lines.specs.Rows.{upperNumber}
 use Rattle.regular_sweeps.specs.Sweeps.{upperNext}
 use Rattle.regular_sweeps.proofs.Sweeps.{upper-first, upper-next}
@@ -10,7 +10,7 @@ use Rattle.regular_sweeps.proofs.upper.upper_numbers.Statement.{stateme
 use Rattle.regular_sweeps.proofs.upper.upper_numbers.Tie as tie
 
 abbrev Inv : tie.InvT-loop
-Inv n upper₀ i₀ upper i = Filled 0 (upperNumber binary64 n zeros) n upper₀ upper i
+Inv n upper₀ i₀ upper i = Filled 0 (upperNumber binary64 n zeroSamples) n upper₀ upper i
 
 abbrev μ : tie.MeasureT-loop
 μ n upper₀ i₀ upper i = n - i
