@@ -14,6 +14,10 @@ CARGO = cargo
 VALGRIND = valgrind
 INSTALL = install
 
+# The Rust that the library follows, and the packages that it needs: neither is part of this repository (oracle/README.md).
+INTERPN_SRC ?= ../shared/docs/src
+REGISTRY = /usr/share/cargo/registry
+
 OUT = target/make
 LIBRARY = $(OUT)/libcorvezan.a
 SHARED = $(OUT)/libcorvezan.so
@@ -39,7 +43,7 @@ SANITIZERS = -fsanitize=address,undefined -fno-sanitize-recover=all -O1 -g
 MEMCHECK = $(VALGRIND) --quiet --error-exitcode=99 --leak-check=full --errors-for-leak-kinds=all
 
 .PHONY: all help examples shared install uninstall sanitize memcheck clean
-.PHONY: test test-header test-symbols test-c test-install test-rust test-python
+.PHONY: test test-header test-symbols test-c test-install test-rust test-python test-differences
 .DELETE_ON_ERROR:
 
 all: $(LIBRARY)
@@ -50,7 +54,7 @@ help:
 	@echo "make examples    the C examples, in $(BIN)"
 	@echo "make install     header, library and pkg-config file, under DESTDIR and PREFIX ($(PREFIX))"
 	@echo "make uninstall   removes them"
-	@echo "make test        header, C, Rust and Python tests"
+	@echo "make test        header, C, Rust and Python tests, and the rows of docs/DIFFERENCES.md"
 	@echo "make sanitize    the C tests with the address and undefined-behaviour sanitizers"
 	@echo "make memcheck    the C tests under valgrind"
 	@echo "make clean       removes $(OUT)"
@@ -114,7 +118,7 @@ uninstall:
 
 # ---- tests
 
-test: test-header test-symbols test-c test-install test-rust test-python
+test: test-header test-symbols test-c test-install test-rust test-python test-differences
 
 # The header by itself, in both languages: it needs nothing to be included before it.
 test-header:
@@ -148,6 +152,17 @@ test-rust: $(LIBRARY)
 
 test-python: $(SHARED)
 	cd python && CORVEZAN_LIBRARY=$(CURDIR)/$(SHARED) $(PYTHON) -m unittest
+
+# Every row of docs/DIFFERENCES.md, on the Rust and on the library. Without the Rust and its packages there is nothing to run.
+test-differences: $(LIBRARY)
+	@if [ ! -f $(INTERPN_SRC)/src/lib.rs ]; then \
+	    echo "test-differences: left out, as there is no Rust in $(INTERPN_SRC); INTERPN_SRC names its folder"; \
+	elif [ ! -d $(REGISTRY) ]; then \
+	    echo "test-differences: left out, as the packages of oracle/README.md are not in $(REGISTRY)"; \
+	else \
+	    cd compare && INTERPN_SRC=$(INTERPN_SRC) CORVEZAN_ARCHIVE=$(CURDIR)/$(LIBRARY) \
+	        CARGO_TARGET_DIR=$(CURDIR)/$(OUT)/cargo $(CARGO) test --offline --test differences; \
+	fi
 
 sanitize: $(LIBRARY)
 	$(MAKE) BIN=$(OUT)/sanitize CFLAGS='$(SANITIZERS)' CXXFLAGS='$(SANITIZERS)' test-c

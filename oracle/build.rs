@@ -16,6 +16,34 @@ pub(crate) fn index_arr_fixed_dims<T: Copy, const N: usize>(loc: [usize; N], dim
 }
 ";
 
+// With the feature `doors`: lines at the end of the two files of the grids, by which the test of docs/DIFFERENCES.md reaches
+// what they keep to themselves. Their own text stays as it is.
+const DOORS: [(&str, &str); 3] = [
+    ("mod.rs", ""),
+    (
+        "regular.rs",
+        "
+pub mod doors {
+    pub fn solve_line(
+        base: usize, stride: usize, n: usize, coeffs: &mut [f64], upper: &mut [f64], rhs: &mut [f64],
+    ) -> Result<(), &'static str> {
+        super::solve_line(base, stride, n, coeffs, upper, rhs)
+    }
+}
+",
+    ),
+    (
+        "rectilinear.rs",
+        "
+pub mod doors {
+    pub fn span_samples(grid: &[f64], span: usize) -> [f64; 4] {
+        super::span_samples(grid, span)
+    }
+}
+",
+    ),
+];
+
 fn main() {
     let src = source_folder();
     let lib = src.join("lib.rs");
@@ -51,10 +79,25 @@ fn root(text: &str, src: &Path) -> String {
         out += line;
         out += "\n";
     }
-    out += &place_of(src, "multibspline/mod.rs");
+    out += &place_of(&maps(src), "mod.rs");
     out += "pub mod multibspline;\n";
     out += MISSING;
     out
+}
+
+// The folder of the files of the grids: the Rust's own, or copies with doors.
+fn maps(src: &Path) -> PathBuf {
+    let own = src.join("multibspline");
+    if env::var_os("CARGO_FEATURE_DOORS").is_none() {
+        return own;
+    }
+    let copies = PathBuf::from(env::var("OUT_DIR").unwrap()).join("multibspline");
+    fs::create_dir_all(&copies).unwrap();
+    for (file, door) in DOORS {
+        let text = fs::read_to_string(own.join(file)).unwrap();
+        fs::write(copies.join(file), text + door).unwrap();
+    }
+    copies
 }
 
 fn place_of(src: &Path, file: &str) -> String {

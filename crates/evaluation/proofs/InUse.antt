@@ -17,8 +17,8 @@ pub take-same : {A : Type 0} (d : A) (n : ℕ) (xs ys : List A) → length xs �
 take-same d n xs ys len same =
     ext-getD d (take n xs) (take n ys) (length-take n xs ∙ rw len (sym (length-take n ys)))
     (λ i h.
-        let below : i < n = omega (arith, length-take n xs) in
-        getD-take n xs i d below ∙ same i below ∙ sym (getD-take n ys i d below))
+    let below : i < n = omega (arith, length-take n xs) in
+    getD-take n xs i d below ∙ same i below ∙ sym (getD-take n ys i d below))
 
 module _ {A : Type 0} (unused : A) (count : ℕ) (entry entry′ : ℕ → A) (same : (a : ℕ) → a < count → entry a ≡ entry′ a) where
   used-same : (a : ℕ) → cond (ltb a count) (entry a) unused ≡ cond (ltb a count) (entry′ a) unused

@@ -57,10 +57,10 @@ module _ (f : Format) (m m′ : RectilinearMap) (grid coefs : List Float) (s : S
 pub unused-not-looked-at : UnusedNotLookedAt
 unused-not-looked-at f m m′ grid coefs s =
     λ i.
-        record {
-          axes = s .count i;
-          checks = checks-same f m m′ grid coefs s i;
-          refuses = λ x. false;
-          value = λ x. value-same f m m′ grid coefs s x i;
-          part = λ x k. part-same f m m′ grid coefs s x k i;
-        }
+    record {
+      axes = s .count i;
+      checks = checks-same f m m′ grid coefs s i;
+      refuses = λ x. false;
+      value = λ x. value-same f m m′ grid coefs s x i;
+      part = λ x k. part-same f m m′ grid coefs s x k i;
+    }

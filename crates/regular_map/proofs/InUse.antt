@@ -64,10 +64,10 @@ module _ (f : Format) (m m′ : RegularMap) (coefs : List Float) (s : SameInUse 
 pub unused-not-looked-at : UnusedNotLookedAt
 unused-not-looked-at f m m′ coefs s =
     λ i.
-        record {
-          axes = s .count i;
-          checks = checks-same f m m′ coefs s i;
-          refuses = λ x. refuses-same f m m′ coefs s x i;
-          value = λ x. value-same f m m′ coefs s x i;
-          part = λ x k. part-same f m m′ coefs s x k i;
-        }
+    record {
+      axes = s .count i;
+      checks = checks-same f m m′ coefs s i;
+      refuses = λ x. refuses-same f m m′ coefs s x i;
+      value = λ x. value-same f m m′ coefs s x i;
+      part = λ x k. part-same f m m′ coefs s x k i;
+    }

@@ -4,7 +4,7 @@ use denote.Ref.{now}
 use lib.ListN.{length}
 use lib.Ieee.{binary64}
 use Rattle.shape.proofs.Lines.{first-cell-room}
-use Rattle.lanes.specs.Lanes.{zeros}
+use Rattle.lanes.specs.Lanes.{zeroSamples}
 use Rattle.lanes.proofs.Groups.{lines-room, uppers-hold, keep-room, axis-leaves}
 use Rattle.rectilinear_weights.specs.Records.{ghostNumbers}
 use Rattle.rectilinear_lines.specs.Rows.{coefficient, upperNumber}
@@ -28,7 +28,7 @@ solve-in-place-requires c κs =
     let w = start .pre .0 .1 in
     let whole = start .pre .1 in (
       (w .four-points, w .stride-pos, whole, lines-room w pos whole),
-      uppers-hold (upperNumber binary64 ks low high) (length ks) (now (a .scratch)) _ (upper-same binary64 ks low high zeros) (up .upper-numbers .ensures) (omega (arith, w .upper-room, w .right-room)),
+      uppers-hold (upperNumber binary64 ks low high) (length ks) (now (a .scratch)) _ (upper-same binary64 ks low high zeroSamples) (up .upper-numbers .ensures) (omega (arith, w .upper-room, w .right-room)),
     )
 
 first-cell-of-requires : tie.Need-first-cell-of-requires
@@ -46,7 +46,7 @@ keep-line-requires c κs =
     let ks = now (a .grid) in
     let low = ghostNumbers (a .low-ghost) in
     let high = ghostNumbers (a .high-ghost) in
-    keep-room (coefficient binary64 ks low high) (length ks) (a .s) (a .lines) (a .m) _ (now (a .coeffs)) (now (a .scratch)) _ _ (upperNumber binary64 ks low high zeros) (start .pre .0 .1) (start .pre .0 .0)
+    keep-room (coefficient binary64 ks low high) (length ks) (a .s) (a .lines) (a .m) _ (now (a .coeffs)) (now (a .scratch)) _ _ (upperNumber binary64 ks low high zeroSamples) (start .pre .0 .1) (start .pre .0 .0)
     (base .first-cell-of .ensures) (solved .solve-in-place .ensures) (up .upper-numbers .ensures)
 
 returns : tie.Need-returns
@@ -63,7 +63,7 @@ returns c =
     let w = start .pre .0 .1 in (
       solved .solve-in-place .ensures,
       axis-leaves (upperNumber binary64 ks low high) (coefficient binary64 ks low high) (length ks) (a .s) (a .lines) (a .m) (now (a .coeffs)) (now (a .scratch)) w (start .pre .0 .0) (looks-coefficient binary64 ks low high (w .four-points))
-          _ _ _ _ (upper-same binary64 ks low high zeros) (base .first-cell-of .ensures) (up .upper-numbers .ensures) (solved .solve-in-place .ensures) (kept .keep-line .ensures),
+          _ _ _ _ (upper-same binary64 ks low high zeroSamples) (base .first-cell-of .ensures) (up .upper-numbers .ensures) (solved .solve-in-place .ensures) (kept .keep-line .ensures),
     )
 
 pub solve-many-spec : {M : Type 1} → statement M

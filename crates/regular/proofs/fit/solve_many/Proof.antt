@@ -4,7 +4,7 @@ use borrow.Author.Needs.{needs}
 use denote.Ref.{now}
 use lib.Ieee.{binary64, nan}
 use Rattle.shape.proofs.Lines.{first-cell-room}
-use Rattle.lanes.specs.Lanes.{zeros}
+use Rattle.lanes.specs.Lanes.{zeroSamples}
 use Rattle.lanes.proofs.Groups.{lines-room, uppers-hold, keep-room, axis-leaves}
 use Rattle.regular_lines.specs.Rows.{coefficient, upperNumber}
 use Rattle.regular_lines.proofs.Rows.{looks-coefficient}
@@ -24,7 +24,7 @@ solve-in-place-requires c κs =
     let w = start .pre .0 .1 in
     let whole = start .pre .1 in (
       (w .four-points, w .stride-pos, whole, lines-room w pos whole),
-      uppers-hold (upperNumber binary64 (a .n)) (a .n) (now (a .scratch)) _ (upper-same binary64 (a .n) zeros) (up .upper-numbers .ensures) (omega (arith, w .upper-room, w .right-room)),
+      uppers-hold (upperNumber binary64 (a .n)) (a .n) (now (a .scratch)) _ (upper-same binary64 (a .n) zeroSamples) (up .upper-numbers .ensures) (omega (arith, w .upper-room, w .right-room)),
     )
 
 first-cell-of-requires : tie.Need-first-cell-of-requires
@@ -39,7 +39,7 @@ keep-line-requires c κs =
     let up = solved .before .before .before .before .before in
     let start = up .before .before .before .before in
     let a = start .args in
-    keep-room (coefficient binary64 (a .n)) (a .n) (a .s) (a .lines) (a .m) _ (now (a .coeffs)) (now (a .scratch)) _ _ (upperNumber binary64 (a .n) zeros) (start .pre .0 .1) (start .pre .0 .0)
+    keep-room (coefficient binary64 (a .n)) (a .n) (a .s) (a .lines) (a .m) _ (now (a .coeffs)) (now (a .scratch)) _ _ (upperNumber binary64 (a .n) zeroSamples) (start .pre .0 .1) (start .pre .0 .0)
     (base .first-cell-of .ensures) (solved .solve-in-place .ensures) (up .upper-numbers .ensures)
 
 returns : tie.Need-returns
@@ -53,7 +53,7 @@ returns c =
     let w = start .pre .0 .1 in (
       solved .solve-in-place .ensures,
       axis-leaves (upperNumber binary64 (a .n)) (coefficient binary64 (a .n)) (a .n) (a .s) (a .lines) (a .m) (now (a .coeffs)) (now (a .scratch)) w (start .pre .0 .0) (looks-coefficient binary64 (a .n) (w .four-points))
-          _ _ _ _ (upper-same binary64 (a .n) zeros) (base .first-cell-of .ensures) (up .upper-numbers .ensures) (solved .solve-in-place .ensures) (kept .keep-line .ensures),
+          _ _ _ _ (upper-same binary64 (a .n) zeroSamples) (base .first-cell-of .ensures) (up .upper-numbers .ensures) (solved .solve-in-place .ensures) (kept .keep-line .ensures),
     )
 
 pub solve-many-spec : {M : Type 1} → statement M

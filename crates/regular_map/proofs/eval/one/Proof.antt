@@ -14,7 +14,7 @@ unfolding mapAnswer
 returns c =
     let w = c .before .before .before in
     let a = w .before .before .before .args in
-    one-refused _ (now (a .x)) _ (one-checks _ (now (a .x)) (c .before .refusal .given .1) (w .check-map .ensures))
+    one-refused _ (now (a .x)) (c .before .refusal .given .0 .0) (one-checks _ (now (a .x)) (c .before .refusal .given .1) (w .check-map .ensures))
 
 returns-2 : tie.Need-returns-2
 unfolding mapAnswer
