@@ -10,15 +10,15 @@ use native.Mathlib.Omega.{arith}
 use lib.Dec.{eqb, ltb}
 use lib.ListN.{length}
 use lib.Ieee.{Float}
-use borrow.Author.Tests.{eq-eqb, eqb-true, eqb-false, ne-eqb, le-ltb, ltb-false, not-false}
+use borrow.Author.Tests.{eqb-true, eqb-false, ne-eqb, le-ltb, ltb-false}
 use Rattle.shape.specs.Checks.{Check, refuse, firstRefusal, lengthCheck, Positive}
-use Rattle.shape.specs.Outcome.{Condition, refuseUnless, Total, lengthCondition}
+use Rattle.shape.specs.Outcome.{Condition, refuseUnless, Total}
 use Rattle.shape.proofs.Accepted.{refused-append, passed-append, positive-append, both-passed}
 use Rattle.shape.proofs.Checks.{length-passed}
 use Rattle.shape.proofs.Outcome.{Tests, none, test, total, append, length-test}
 use Rattle.evaluation.specs.Axes.{query}
 use Rattle.evaluation.specs.Spline.{Spline, oneAnswer, batchAnswer, gradientBatchAnswer}
-use Rattle.evaluation.specs.Batch.{before, badAt, entriesAnswer, valuesAnswer, gradientsAnswer}
+use Rattle.evaluation.specs.Batch.{before, badAt, entriesAnswer}
 use Rattle.evaluation.specs.Total.{EvaluationTotal, BeforeIsFirst}
 use Rattle.evaluation.proofs.Batches.{before-next, before-stop}
 

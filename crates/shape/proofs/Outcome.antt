@@ -1,5 +1,5 @@
 -- From the checks of a call to its conditions, once for every call. Assumes nothing.
-use mathlib.Core.Path.{_≡_, refl, sym, ap, _∙_, subst}
+use mathlib.Core.Path.{_≡_, refl, sym, subst}
 use mathlib.Core.Logic.{_↔_}
 use mathlib.Core.Bool.{Bool, true, false, cond, not, _||_}
 use mathlib.Core.List.{List, [], _∷_, _++_}
@@ -12,7 +12,7 @@ use borrow.Author.Tests.{lt-ltb, le-ltb, ltb-true, ltb-false, eq-eqb, ne-eqb, eq
 use Rattle.shape.specs.Shape.{longest, size, lines, isLine}
 use Rattle.shape.specs.Checks.{Check, refuse, firstRefusal, Positive, anyShort, mostPoints, shapeChecks, lengthCheck, scratchCheck}
 use Rattle.shape.specs.Usable.{Usable}
-use Rattle.shape.specs.Outcome.{Condition, refuseUnless, Outcome, accepted, refused, passed, Total, shapeConditions, lengthCondition, scratchCondition, lineCondition}
+use Rattle.shape.specs.Outcome.{Condition, Outcome, accepted, refused, passed, Total, shapeConditions, lengthCondition, scratchCondition, lineCondition}
 use Rattle.shape.proofs.Lengths.{or-false}
 use Rattle.shape.proofs.Below.{apart, and-both}
 use Rattle.shape.proofs.Checks.{check-passed}
@@ -52,18 +52,13 @@ answered (test same means rest) (passed h o) = rw (means .1 h) (answered (rest h
 pub total : {cs : List Check} {ds : List Condition} → Tests cs ds → Total (firstRefusal cs) ds
 total {cs} {ds} t n = ((λ e. subst (Outcome ds) (sym e) (outcome t)), (λ o. answered t o))
 
--- where the call is accepted, all conditions hold; and it is accepted where they do
+-- where the call is accepted, all conditions hold
 pub all-hold : {cs : List Check} {ds : List Condition} → Tests cs ds → Positive cs → firstRefusal cs ≡ 0 → Holds ds
 all-hold none pos e = tt
 all-hold (test {c} {cs} same means rest) pos e =
     let p = check-passed cs (c .number) (c .fails) (pos .0) e in
     let h = means .0 (p .0) in
     (h, all-hold (rest h) (pos .1) (p .1))
-
-pub none-refused : {cs : List Check} {ds : List Condition} → Tests cs ds → Holds ds → firstRefusal cs ≡ 0
-unfolding firstRefusal
-none-refused none hs = refl
-none-refused (test same means rest) hs = rw (means .1 (hs .0)) (none-refused (rest (hs .0)) (hs .1))
 
 -- one list of checks after another
 pub append : {cs : List Check} {ds : List Condition} {cs′ : List Check} {ds′ : List Condition} → Tests cs ds → (Holds ds → Tests cs′ ds′) → Tests (cs ++ cs′) (ds ++ ds′)

@@ -3,7 +3,7 @@
 --     grid, coefs, ..  the lengths of the buffers that the call is lent
 use mathlib.Core.Bool.{Bool, false, cond, not, _||_}
 use mathlib.Core.List.{List, [], _∷_, _++_}
-use Prim.Native.Nat.{ℕ, zero, suc, _*_, _<_}
+use Prim.Native.Nat.{ℕ, _*_, _<_}
 use lib.Dec.{eqb, ltb}
 use lib.ListN.{take}
 use Rattle.shape.specs.Shape.{longest, size}
