@@ -42,9 +42,12 @@ pub record Entries (bad : ℕ → Bool) (step : ℕ → List Float → List Floa
   pub answers : answer ≡ cond (ltb (before bad n) n) 6 0
   pub leaves : out′ ≡ written step (before bad n) out
 
--- `lengths` is the answer of the checks before the entries
+-- `lengths` is the answer of the checks before the entries; then 6 where some entry is bad
+abbrev pub entriesAnswer : ℕ → (ℕ → Bool) → ℕ → ℕ
+entriesAnswer lengths bad n = cond (eqb lengths 0) (cond (ltb (before bad n) n) 6 0) lengths
+
 pub record Batch (lengths : ℕ) (bad : ℕ → Bool) (step : ℕ → List Float → List Float) (n : ℕ) (out : List Float) (answer : ℕ) (out′ : List Float) : Type 0 where
-  pub answers : answer ≡ cond (eqb lengths 0) (cond (ltb (before bad n) n) 6 0) lengths
+  pub answers : answer ≡ entriesAnswer lengths bad n
   pub leaves : out′ ≡ cond (eqb lengths 0) (written step (before bad n) out) out
 
 -- ---- a batch of values, and one of gradients
@@ -56,3 +59,10 @@ ValueBatch s xs out answer out′ =
 abbrev pub GradientBatch : Spline → List Float → List Float → ℕ → List Float → Type 0
 GradientBatch s xs out answer out′ =
     let n = length out / s .axes in Batch (gradientBatchAnswer s (length xs) (length out)) (badAt s xs n) (gradientStep s xs n) n out answer out′
+
+-- what each answers
+abbrev pub valuesAnswer : Spline → List Float → List Float → ℕ
+valuesAnswer s xs out = let n = length out in entriesAnswer (batchAnswer s (length xs) n) (badAt s xs n) n
+
+abbrev pub gradientsAnswer : Spline → List Float → List Float → ℕ
+gradientsAnswer s xs out = let n = length out / s .axes in entriesAnswer (gradientBatchAnswer s (length xs) (length out)) (badAt s xs n) n

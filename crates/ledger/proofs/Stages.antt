@@ -1,7 +1,7 @@
 -- The checks of begin and of the line call, kind after kind, from what the code is answered for each kind. Assumes nothing.
 use mathlib.Core.Path.{_≡_, refl, sym, ap, _∙_}
 use mathlib.Core.Bool.{false}
-use mathlib.Core.List.{List, [], _∷_, _++_, append-assoc}
+use mathlib.Core.List.{List, [], _++_, append-assoc}
 use Prim.Native.Nat.{ℕ, _≤_, _<_}
 use native.Mathlib.Omega.{arith}
 use lib.Dec.{eqb}
@@ -17,7 +17,7 @@ use Rattle.shape.specs.declared.answers.Refusal.the-variants.{AxisCount, Dimens
 use Rattle.shape.specs.declared.answers.Answer.{Answer}
 use Rattle.shape.specs.declared.answers.Answer.the-variants.{Accepted, Refused}
 use Rattle.shape.proofs.Checks.{length-fails, length-passes, length-passed, scratch-fails, scratch-passes}
-use Rattle.shape.proofs.Accepted.{refusal-suc, refusal-append, prefix-passed, passed-append, both-passed, accepted-append, usable-accepted, storage-is, scratch-is}
+use Rattle.shape.proofs.Accepted.{refusal-suc, refusal-append, prefix-passed, passed-append, both-passed, positive-append, accepted-append, usable-accepted, storage-is, scratch-is}
 use Rattle.book.specs.LineCall.{Call, State, dueChecks, beginChecks, beginAnswer, callChecks, callAnswer}
 use Rattle.book.proofs.Answers.{Ready}
 use Rattle.ledger.specs.Ready.{readyChecks}
@@ -98,10 +98,6 @@ module _ (count : ℕ) (lens : List ℕ) (four : length lens ≡ 4) (u : Usable 
 pub none-refuse : firstRefusal [] ≡ 0
 unfolding firstRefusal
 none-refuse = refl
-
-pub positive-append : (xs ys : List Check) → Positive xs → Positive ys → Positive (xs ++ ys)
-positive-append [] ys p q = q
-positive-append (x ∷ xs) ys p q = (p .0, positive-append xs ys (p .1) q)
 
 module _ (count : ℕ) (lens : List ℕ) (grid knots : List Check) (coefs ledger : ℕ) where
   abbrev Answered : ℕ → Type 0

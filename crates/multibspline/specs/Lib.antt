@@ -2,3 +2,4 @@ pub mod Numbers
 pub mod Thomas
 pub mod Line
 pub mod Records
+pub mod Total

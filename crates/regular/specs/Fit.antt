@@ -5,7 +5,7 @@ use lib.ListN.{length, take}
 use lib.Ieee.{Float, Format, nan}
 use Rattle.shape.specs.Shape.{points}
 use Rattle.shape.specs.Fit as Axes
-use Rattle.shape.specs.Fit.{Fitted}
+use Rattle.shape.specs.Fit.{Fitted, FitLeaves}
 use Rattle.shape.specs.Checks.{firstRefusal, regularFitChecks}
 use Rattle.regular_lines.specs.Rows.{coefficient, upperNumber}
 
@@ -30,3 +30,11 @@ RegularFitted f count lens samples coefs scratch answer coefs′ scratch′ =
     (regularFit f (take count lens) samples)
     (regularScratch f (take count lens) samples scratch)
     coefs scratch answer coefs′ scratch′
+
+-- the coefficients and scratch alone, for a call whose answer is not that of the fit
+abbrev pub RegularFitLeaves : Format → ℕ → List ℕ → List Float → List Float → List Float → List Float → List Float → Type 0
+RegularFitLeaves f count lens samples coefs scratch coefs′ scratch′ =
+    FitLeaves (firstRefusal (regularFitChecks count lens (length samples) (length coefs) (length scratch)))
+    (regularFit f (take count lens) samples)
+    (regularScratch f (take count lens) samples scratch)
+    coefs scratch coefs′ scratch′

@@ -1,7 +1,6 @@
 -- When a shape is accepted, what that gives of each axis, and how a refusal of the shape carries to longer lists of checks.
 -- Assumes nothing.
-use mathlib.Core.Path.{_≡_, refl, sym, ap, ap₂, _∙_, subst}
-use mathlib.Core.Logic.{_↔_, _⊎_, inl, inr}
+use mathlib.Core.Path.{_≡_, refl, sym, ap, ap₂, _∙_}
 use mathlib.Core.Bool.{Bool, true, false, cond, not, _&&_, _||_}
 use mathlib.Core.List.{List, [], _∷_, _++_}
 use Prim.Native.Nat.{ℕ, zero, suc, _+_, _*_, _-_, _≤_, _<_}
@@ -11,14 +10,14 @@ use native.Mathlib.Omega.{arith}
 use lib.Dec.{eqb, ltb}
 use lib.ListN.{length, getD, take, drop, length-take}
 use lib.Seq.{length-take-le, getD-take, take-take}
-use borrow.Author.Tests.{ltb-true, ltb-false, lt-ltb, le-ltb, eqb-true, eqb-false, ne-eqb, eq-eqb}
+use borrow.Author.Tests.{ltb-false, lt-ltb, le-ltb, eqb-true, eqb-false, ne-eqb, eq-eqb}
 use Rattle.shape.specs.Shape.{product, longest, size, points, NotEmpty, stride, lines, first, firstCell}
 use Rattle.shape.specs.Refusal.{refusalNumber, answerNumber}
 use Rattle.shape.specs.declared.answers.Refusal.{Refusal}
 use Rattle.shape.specs.declared.answers.Refusal.the-variants.{AxisCount, DimensionMismatch, TooManyPoints, ScratchTooSmall, NotIncreasing, Unrepresentable, NoSuchLine, AlreadySolved, NotDue}
 use Rattle.shape.specs.declared.answers.Answer.{Answer}
 use Rattle.shape.specs.declared.answers.Answer.the-variants.{Accepted, Refused}
-use Rattle.shape.specs.Checks.{Check, firstRefusal, FirstFails, none, here, later, anyShort, mostPoints, shapeChecks, shapeAccepted, Positive}
+use Rattle.shape.specs.Checks.{Check, firstRefusal, anyShort, mostPoints, shapeChecks, shapeAccepted, Positive}
 use Rattle.shape.specs.Usable.{Usable, LinesWithin}
 use Rattle.shape.specs.Sizes.{coeffStorageLen, constructionScratchLen, strideOf, linesOf}
 use Rattle.shape.proofs.Lengths.{or-false}
@@ -52,25 +51,6 @@ refused-append (x ∷ xs) ys n e = go (x .fails) (λ h. refused-append xs ys n h
 pub refusal-append : (r : Refusal) (xs ys : List Check) → refusalNumber r ≡ firstRefusal xs → refusalNumber r ≡ firstRefusal (xs ++ ys)
 refusal-append r xs ys e = refusal-suc r ∙ sym (refused-append xs ys (refusalNumber r - 1) (sym e ∙ refusal-suc r))
 
--- demand 1 for every call: an answer is given exactly where its check fails and none before it does
-first-fails : (cs : List Check) → FirstFails cs (firstRefusal cs)
-unfolding firstRefusal
-first-fails [] = none
-first-fails (c ∷ cs) = go (c .fails) refl (first-fails cs)
-  where
-    go : (b : Bool) → c .fails ≡ b → FirstFails cs (firstRefusal cs) → FirstFails (c ∷ cs) (cond b (c .number) (firstRefusal cs))
-    go true e rest = here e
-    go false e rest = later e rest
-
-answer-of : {cs : List Check} {n : ℕ} → FirstFails cs n → n ≡ firstRefusal cs
-unfolding firstRefusal
-answer-of none = refl
-answer-of (here e) = rw e
-answer-of (later e rest) = rw e (answer-of rest)
-
-pub first-refusal : (cs : List Check) (n : ℕ) → (n ≡ firstRefusal cs) ↔ FirstFails cs n
-first-refusal cs n = ((λ e. subst (FirstFails cs) (sym e) (first-fails cs)), answer-of)
-
 -- checks that pass leave the answer to what follows them, where their numbers are above 0
 pub passed-append : (xs ys : List Check) → Positive xs → firstRefusal xs ≡ 0 → firstRefusal (xs ++ ys) ≡ firstRefusal ys
 unfolding firstRefusal
@@ -90,6 +70,10 @@ prefix-passed xs ys e = go (firstRefusal xs) refl
 
 pub both-passed : (xs ys : List Check) → Positive xs → firstRefusal (xs ++ ys) ≡ 0 → (firstRefusal xs ≡ 0) × (firstRefusal ys ≡ 0)
 both-passed xs ys p e = let q = prefix-passed xs ys e in (q, sym (passed-append xs ys p q) ∙ e)
+
+pub positive-append : (xs ys : List Check) → Positive xs → Positive ys → Positive (xs ++ ys)
+positive-append [] ys p q = q
+positive-append (x ∷ xs) ys p q = (p .0, positive-append xs ys (p .1) q)
 
 -- ---- an accepted shape
 

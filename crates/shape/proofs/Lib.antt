@@ -7,6 +7,8 @@ pub mod Numbering
 pub mod BaseIndex
 pub mod Checks
 pub mod Accepted
+pub mod Outcome
+pub mod Total
 pub mod Fitted
 pub mod Found
 pub mod Fit

@@ -1,10 +1,9 @@
 -- The checks of a call, and their fixed order. The first check that fails gives the call's answer. Assumes nothing.
 --     count, lens      the axis count and the four lengths of a shape; its axes are `take count lens`
 --     grid, coefs, ..  the lengths of the buffers that the call is lent
-use mathlib.Core.Path.{_≡_}
-use mathlib.Core.Bool.{Bool, true, false, cond, not, _||_}
+use mathlib.Core.Bool.{Bool, false, cond, not, _||_}
 use mathlib.Core.List.{List, [], _∷_, _++_}
-use Prim.Native.Nat.{ℕ, zero, suc, _*_, _<_}
+use Prim.Native.Nat.{ℕ, _*_, _<_}
 use lib.Dec.{eqb, ltb}
 use lib.ListN.{take}
 use Rattle.shape.specs.Shape.{longest, size}
@@ -26,12 +25,6 @@ Positive (c ∷ cs) = (0 < c .number) × Positive cs
 unfoldable pub firstRefusal : List Check → ℕ
 firstRefusal [] = 0
 firstRefusal (c ∷ cs) = cond (c .fails) (c .number) (firstRefusal cs)
-
--- which check that is: it fails, and those before it pass
-pub data FirstFails : List Check → ℕ → Type 0 where
-  none : FirstFails [] 0
-  here : {c : Check} {cs : List Check} → c .fails ≡ true → FirstFails (c ∷ cs) (c .number)
-  later : {c : Check} {cs : List Check} {n : ℕ} → c .fails ≡ false → FirstFails cs n → FirstFails (c ∷ cs) n
 
 -- The order for every call that fits a map: each kind of check, by what it looks at. A call leaves the kinds that it has no
 -- use for empty.

@@ -70,8 +70,13 @@ module _ {A : Type 0} (o : A) (upper solve : ℕ → (ℕ → A) → ℕ → A) 
 
 -- ---- a call that fits something, a line or a map
 
--- an accepted call leaves `fitted` in the coefficients and `left` in scratch; a refusal changes nothing
+-- coefficients and scratch after it, by the number that its checks give: `fitted` in the coefficients and `left` in scratch where
+-- they pass; a refusal changes nothing
+pub record FitLeaves {A : Type 0} (number : ℕ) (fitted left coefs scratch coefs′ scratch′ : List A) : Type 0 where
+  pub coefficients : coefs′ ≡ cond (eqb number 0) fitted coefs
+  pub scratch-after : scratch′ ≡ cond (eqb number 0) left scratch
+
+-- and its answer is that number
 pub record Fitted {A : Type 0} (expected : ℕ) (fitted left coefs scratch : List A) (answer : ℕ) (coefs′ scratch′ : List A) : Type 0 where
   pub answers : answer ≡ expected
-  pub coefficients : coefs′ ≡ cond (eqb answer 0) fitted coefs
-  pub leaves : scratch′ ≡ cond (eqb answer 0) left scratch
+  pub leaves : FitLeaves expected fitted left coefs scratch coefs′ scratch′

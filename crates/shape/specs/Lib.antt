@@ -7,3 +7,5 @@ pub mod Refusal
 pub mod Checks
 pub mod Usable
 pub mod Sizes
+pub mod Outcome
+pub mod Total

@@ -1,3 +1,4 @@
 pub mod Calls
 pub mod Regular
 pub mod Rectilinear
+pub mod Total

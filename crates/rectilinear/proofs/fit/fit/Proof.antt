@@ -7,8 +7,7 @@ use lib.Ieee.{Float, binary64}
 use borrow.Author.Needs.{needs}
 use Rattle.shape.proofs.Fitted.{fitted-refused, fitted-accepted}
 use Rattle.rectilinear.specs.Fit.{rectilinearFit, rectilinearScratch}
-use Rattle.rectilinear.specs.Total.{FitAccepted}
-use Rattle.rectilinear.proofs.Total.{fit-range}
+use Rattle.rectilinear.proofs.Total.{FitAccepted, fit-range}
 use Rattle.rectilinear.proofs.fit.fit.Statement.{statement}
 use Rattle.rectilinear.proofs.fit.fit.Tie as tie
 
