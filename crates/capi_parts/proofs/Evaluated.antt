@@ -14,10 +14,8 @@ use Rattle.shape.proofs.Checks.{length-passes, length-passed}
 use Rattle.shape.proofs.Accepted.{prefix-passed, accepted-append, usable}
 use Rattle.evaluation.specs.Axes.{query, zeros}
 use Rattle.evaluation.specs.Spline.{Spline, gradient, oneAnswer, OneValue, OneGradient, batchAnswer, gradientBatchAnswer}
-use Rattle.evaluation.specs.Records.{valuedNumber, valuedValue}
 use Rattle.evaluation.specs.Built.{BuiltFrom}
 use Rattle.evaluation.specs.Batch.{badAt, valueStep, gradientStep, ValueBatch, GradientBatch}
-use Rattle.evaluation.specs.declared.answers.Valued.{Valued}
 use Rattle.evaluation.proofs.Outcomes.{gradient-written}
 use Rattle.multibspline.specs.Numbers.{f0}
 use Rattle.regular_blocks.specs.Map.{RegularMap}
@@ -40,7 +38,7 @@ twice : {A : Type 0} (b : Bool) (v z old : A) → cond b (cond b v z) old ≡ co
 twice true v z old = refl
 twice false v z old = refl
 
-pub wrote-value : (s : Spline) (x : List Float) {v : Valued} {expected n : ℕ} {old new : Float} → expected ≡ oneAnswer s x → OneValue s x (valuedNumber v) (valuedValue v) → Wrote (valuedNumber v) (valuedValue v) old n new
+pub wrote-value : (s : Spline) (x : List Float) {k expected n : ℕ} {v old new : Float} → expected ≡ oneAnswer s x → OneValue s x k v → Wrote k v old n new
     → Wrote expected (s .value (query (s .axes) x 1 0)) old n new
 wrote-value s x {old = old} e w p = record {
   answers = p .answers ∙ w .answers ∙ sym e;
@@ -102,9 +100,9 @@ module _ (dims : List ℕ) (grid : List Float) {k : ℕ} (told : k ≡ firstRefu
     unfolding oneAnswer
     regular-one x = dropped _
 
-    pub regular-value : (x : List Float) {v : Valued} {n : ℕ} {old new : Float} → OneValue (regular f m coefs) x (valuedNumber v) (valuedValue v) → Wrote (valuedNumber v) (valuedValue v) old n new
+    pub regular-value : (x : List Float) {k n : ℕ} {v old new : Float} → OneValue (regular f m coefs) x k v → Wrote k v old n new
         → Wrote (oneAnswer (regularSpline f dims grid linear coefs) x) (regularSpline f dims grid linear coefs .value (query (length dims) x 1 0)) old n new
-    regular-value x {v} w p = wrote-value (regular f (regularMap dims grid linear) coefs) x (regular-one x) (subst (λ (m : RegularMap). OneValue (regular f m coefs) x (valuedNumber v) (valuedValue v)) e w) p
+    regular-value x {k} {n} {v} w p = wrote-value (regular f (regularMap dims grid linear) coefs) x (regular-one x) (subst (λ (m : RegularMap). OneValue (regular f m coefs) x k v) e w) p
 
     pub regular-values : (xs out : List Float) {n : ℕ} {out′ : List Float} → ValueBatch (regular f m coefs) xs out n out′ → ValueBatch (regularSpline f dims grid linear coefs) xs out n out′
     unfolding batchAnswer badAt valueStep
@@ -162,9 +160,9 @@ module _ (dims : List ℕ) (grid : List Float) {n : ℕ} (told : n ≡ gridAnswe
   rectilinear-few z = usable (length dims) (lensOf dims) (four-lens dims) (prefix-passed (shapeChecks (length dims) (lensOf dims)) _ (sym told ∙ z)) .at-most-four
 
 module _ (f : Format) (dims : List ℕ) (grid : List Float) (linear : Bool) (coefs : List Float) (m : RectilinearMap) (e : m ≡ rectilinearMap f dims grid linear) where
-  pub rectilinear-value : (x : List Float) {v : Valued} {n : ℕ} {old new : Float} → OneValue (rectilinear f m grid coefs) x (valuedNumber v) (valuedValue v) → Wrote (valuedNumber v) (valuedValue v) old n new
+  pub rectilinear-value : (x : List Float) {k n : ℕ} {v old new : Float} → OneValue (rectilinear f m grid coefs) x k v → Wrote k v old n new
       → Wrote (oneAnswer (rectilinearSpline f dims grid linear coefs) x) (rectilinearSpline f dims grid linear coefs .value (query (length dims) x 1 0)) old n new
-  rectilinear-value x {v} w p = wrote-value (rectilinearSpline f dims grid linear coefs) x refl (subst (λ (m : RectilinearMap). OneValue (rectilinear f m grid coefs) x (valuedNumber v) (valuedValue v)) e w) p
+  rectilinear-value x {k} {n} {v} w p = wrote-value (rectilinearSpline f dims grid linear coefs) x refl (subst (λ (m : RectilinearMap). OneValue (rectilinear f m grid coefs) x k v) e w) p
 
   pub rectilinear-values : (xs out : List Float) {n : ℕ} {out′ : List Float} → ValueBatch (rectilinear f m grid coefs) xs out n out′ → ValueBatch (rectilinearSpline f dims grid linear coefs) xs out n out′
   rectilinear-values xs out {n} {out′} w = subst (λ (m : RectilinearMap). ValueBatch (rectilinear f m grid coefs) xs out n out′) e w
