@@ -16,7 +16,7 @@ use Rattle.shape.specs.Refusal.{refusalNumber}
 use Rattle.shape.specs.declared.answers.Refusal.{Refusal}
 use Rattle.shape.specs.declared.answers.FirstCell.{FirstCell}
 use Rattle.shape.specs.declared.answers.FirstCell.the-variants as FirstCells
-use Rattle.shape.specs.Fit.{Fitted}
+use Rattle.shape.specs.Fit.{FitLeaves}
 use Rattle.shape.proofs.Accepted.{refused-append, refusal-append, passed-append, accepted-append}
 use Rattle.shape.proofs.Checks.{length-fails, length-passes}
 use Rattle.ledger.proofs.Stages.{refusal-some, none-refuse}
@@ -43,8 +43,8 @@ module _ {n : ℕ} (h : n ≡ 0 → ⊥) where
   pub wrote-nothing : {A : Type 0} {expected : ℕ} {value old : A} → n ≡ expected → Wrote expected value old n old
   wrote-nothing e = let b = some e in record { answers = e; leaves = rw b }
 
-  pub fitted-nothing : {A : Type 0} {k : ℕ} {fit left coefs scratch : List A} → n ≡ k → Fitted k fit left coefs scratch k coefs scratch
-  fitted-nothing e = let b = some e in record { answers = refl; coefficients = rw b; leaves = rw b }
+  pub fitted-nothing : {A : Type 0} {k : ℕ} {fit left coefs scratch : List A} → n ≡ k → FitLeaves k fit left coefs scratch coefs scratch
+  fitted-nothing e = let b = some e in record { coefficients = rw b; scratch-after = rw b }
 
   batch-nothing : {lengths : ℕ} {bad : ℕ → Bool} {step : ℕ → List Float → List Float} {m : ℕ} {out : List Float} → n ≡ lengths → Batch lengths bad step m out n out
   batch-nothing e = let b = some e in record { answers = rw b e; leaves = rw b }

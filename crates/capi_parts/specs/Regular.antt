@@ -8,7 +8,7 @@ use lib.ListN.{length, take}
 use lib.Ieee.{Float, Format}
 use Rattle.shape.specs.Shape.{size}
 use Rattle.shape.specs.Checks.{Check, refuse, firstRefusal, inOrder, shapeChecks, lengthCheck, scratchCheck}
-use Rattle.shape.specs.Fit.{Fitted}
+use Rattle.shape.specs.Fit.{FitLeaves}
 use Rattle.evaluation.specs.Spline.{Spline}
 use Rattle.regular.specs.Fit.{regularFit, regularScratch}
 use Rattle.regular_blocks.specs.Map.{RegularMap}
@@ -65,17 +65,18 @@ fitChecks dims grid samples coefs scratch =
     })
 
 -- the fit, where its checks pass; then the steps are tested
+abbrev pub valuesAnswer : List ℕ → List Float → ℕ → ℕ → ℕ → ℕ
+valuesAnswer dims grid samples coefs scratch =
+    firstRefusal (fitChecks dims grid samples coefs scratch ++ refuse 5 (anyStepBad (take (length dims) (stepsOf dims grid))) ∷ [])
+
 pub record FromValues (f : Format) (dims : List ℕ) (grid samples coefs scratch : List Float) (answer : ℕ) (coefs′ scratch′ : List Float) : Type 0 where
-  pub answers :
-      answer
-      ≡ firstRefusal (fitChecks dims grid (length samples) (length coefs) (length scratch) ++ refuse 5 (anyStepBad (take (length dims) (stepsOf dims grid))) ∷ [])
+  pub answers : answer ≡ valuesAnswer dims grid (length samples) (length coefs) (length scratch)
   pub fits :
-      Fitted
+      FitLeaves
       (firstRefusal (fitChecks dims grid (length samples) (length coefs) (length scratch)))
       (regularFit f (take (length dims) (lensOf dims)) samples)
       (regularScratch f (take (length dims) (lensOf dims)) samples scratch)
       coefs
       scratch
-      (firstRefusal (fitChecks dims grid (length samples) (length coefs) (length scratch)))
       coefs′
       scratch′

@@ -14,7 +14,7 @@ use Rattle.shape.specs.Sizes.{coeffStorageLen}
 use Rattle.shape.specs.declared.answers.Refusal.{Refusal}
 use Rattle.shape.specs.declared.answers.Answer.{Answer}
 use Rattle.shape.specs.declared.answers.Answer.the-variants.{Accepted, Refused}
-use Rattle.shape.proofs.Accepted.{refusal-append, accepted-append, prefix-passed, storage-is, usable, usable-accepted, axes-are}
+use Rattle.shape.proofs.Accepted.{refusal-append, accepted-append, prefix-passed, storage-is, usable, axes-are}
 use Rattle.shape.proofs.Checks.{check-fails, check-passes, check-passed, length-fails, length-passes, length-passed}
 use Rattle.knots.specs.Joined.{total, allRise}
 use Rattle.knots.specs.Checks.{gridCheck, knotsCheck}
@@ -96,12 +96,6 @@ module _ (count : ℕ) (lens : List ℕ) (grid : List Float) (coefs : ℕ) where
 
   pub told-sound : length lens ≡ 4 → {x : Answer} → x ≡ Accepted → answerNumber x ≡ mapAnswer count lens grid coefs → Sound count lens grid coefs
   told-sound four told e = map-sound four (sym e ∙ ap answerNumber told)
-
-  pub sound-accepted : length lens ≡ 4 → Sound count lens grid coefs → mapAnswer count lens grid coefs ≡ 0
-  sound-accepted four s =
-      let u = s .gridded .shape in
-      let ok = usable-accepted count lens four u in
-      sym (map-passed ok (s .gridded .joined) (s .sized ∙ sym (storage-is count lens ok)) four (s .gridded .rising))
 
 -- what a map has whose fit is accepted
 pub fit-gridded : (count : ℕ) (lens : List ℕ) (grid : List Float) (samples coefs scratch : ℕ) → length lens ≡ 4 → {x : Answer} → x ≡ Accepted → answerNumber x ≡ firstRefusal (rectilinearFitChecks count lens grid samples coefs scratch) → Gridded count lens grid

@@ -1,38 +1,55 @@
 -- Demand 1 for the calls on a rectilinear map. Assumes nothing.
 use mathlib.Core.Path.{_≡_, refl}
-use mathlib.Core.Logic.{_↔_}
 use mathlib.Core.List.{List}
-use Prim.Native.Nat.{ℕ, _*_, _%_}
-use lib.ListN.{length}
+use Prim.Native.Nat.{ℕ}
+use lib.ListN.{length, take}
 use lib.Ieee.{Float, Format}
-use Rattle.evaluation.proofs.Total as Calls
+use Rattle.shape.specs.Shape.{size}
+use Rattle.shape.proofs.Outcome.{Tests, none, shape-test, length-test}
+use Rattle.shape.proofs.Outcome as Outcome
+use Rattle.knots.specs.Joined.{total}
+use Rattle.rectilinear.proofs.Total.{knots-test}
+use Rattle.evaluation.specs.Spline.{oneAnswer}
+use Rattle.evaluation.proofs.Total.{evaluation-total, one-accepted}
+use Rattle.evaluation.proofs.Placing.{axis-test}
 use Rattle.rectilinear_blocks.specs.Map.{RectilinearMap}
-use Rattle.rectilinear_blocks.specs.Eval.{mapAnswer, rectilinear}
+use Rattle.rectilinear_blocks.specs.Eval.{gridAnswer, mapChecks, mapAnswer, rectilinear}
 use Rattle.rectilinear_blocks.specs.Sound.{Sound}
-use Rattle.rectilinear_map.specs.Total.{MapTotal, OneTotal, BatchTotal, GradientBatchTotal}
-use Rattle.rectilinear_map.proofs.Checks.{map-numbered, map-sound, sound-accepted}
+use Rattle.rectilinear_map.specs.Total.{mapConditions, HasPlace, GridTotal, MapTotal, RectilinearTotal, PlaceTotal}
+use Rattle.rectilinear_map.proofs.Checks.{map-numbered, map-sound}
+
+pub map-tests : (count : ℕ) (lens : List ℕ) (grid : List Float) (coefs : ℕ) → length lens ≡ 4 → Tests (mapChecks count lens grid coefs) (mapConditions count lens grid coefs)
+map-tests count lens grid coefs four =
+    shape-test count lens four (λ u.
+    length-test (total (take count lens)) (length grid) (λ _.
+    length-test (size (take count lens)) coefs (λ _.
+    knots-test count lens grid four u (λ _. none))))
+
+pub grid-total : GridTotal
+unfolding gridAnswer
+grid-total count lens grid four = Outcome.total (shape-test count lens four (λ _. length-test (total (take count lens)) (length grid) (λ _. none)))
 
 pub map-total : MapTotal
-map-total count lens grid coefs four = (map-sound count lens grid coefs four, sound-accepted count lens grid coefs four)
+unfolding mapAnswer
+map-total count lens grid coefs four = Outcome.total (map-tests count lens grid coefs four)
 
-module _ (f : Format) (m : RectilinearMap) (grid coefs : List Float) where
-  pub one-total : OneTotal f m grid coefs
-  unfolding mapAnswer
-  one-total x four =
-      let t = Calls.one-total (rectilinear f m grid coefs) (map-numbered (m .count) (m .lens) grid (length coefs)) x in
-      let s = map-total (m .count) (m .lens) grid (length coefs) four in
-      ((λ e. let w = t .0 e in (s .0 (w .0), w .1)), (λ w. t .1 (s .1 (w .0), w .1, refl)))
+pub place-total : PlaceTotal
+place-total count lens grid a four =
+    Outcome.total
+    (shape-test count lens four (λ u.
+    length-test (total (take count lens)) (length grid) (λ _.
+    knots-test count lens grid four u (λ _.
+    axis-test count a none))))
 
-  pub batch-total : BatchTotal f m grid coefs
-  unfolding mapAnswer
-  batch-total xs out four =
-      let t = Calls.batch-total (rectilinear f m grid coefs) (map-numbered (m .count) (m .lens) grid (length coefs)) xs out in
-      let s = map-total (m .count) (m .lens) grid (length coefs) four in
-      ((λ e. let w = t .0 e in (s .0 (w .0), w .1)), (λ w. t .1 (s .1 (w .0), w .1)))
+pub rectilinear-total : RectilinearTotal
+rectilinear-total f m grid coefs four =
+    evaluation-total (rectilinear f m grid coefs) (mapConditions (m .count) (m .lens) grid (length coefs)) HasPlace
+    (map-tests (m .count) (m .lens) grid (length coefs) four) (map-numbered (m .count) (m .lens) grid (length coefs)) (λ x. ((λ _. tt), (λ _. refl)))
 
-  pub gradient-batch-total : GradientBatchTotal f m grid coefs
-  unfolding mapAnswer
-  gradient-batch-total xs out four =
-      let t = Calls.gradient-batch-total (rectilinear f m grid coefs) (map-numbered (m .count) (m .lens) grid (length coefs)) xs out in
-      let s = map-total (m .count) (m .lens) grid (length coefs) four in
-      ((λ e. let w = t .0 e in (s .0 (w .0), w .1, w .2)), (λ w. t .1 (s .1 (w .0), w .1, w .2)))
+-- what an answered query has
+pub one-answered : (f : Format) (m : RectilinearMap) (grid coefs x : List Float) → length (m .lens) ≡ 4 → oneAnswer (rectilinear f m grid coefs) x ≡ 0
+    → Sound (m .count) (m .lens) grid (length coefs) × (length x ≡ m .count)
+unfolding mapAnswer
+one-answered f m grid coefs x four e =
+    let w = one-accepted (rectilinear f m grid coefs) (map-numbered (m .count) (m .lens) grid (length coefs)) x e in
+    (map-sound (m .count) (m .lens) grid (length coefs) four (w .0), w .1)

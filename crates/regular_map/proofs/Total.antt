@@ -1,36 +1,38 @@
 -- Demand 1 for the calls on a regular map. Assumes nothing.
-use mathlib.Core.Path.{_≡_, refl, sym, _∙_}
+use mathlib.Core.Path.{_≡_, refl}
 use mathlib.Core.Logic.{_≢_, _↔_}
-use mathlib.Core.Bool.{Bool, true, false, cond, not}
+use mathlib.Core.Bool.{true, false, not}
 use mathlib.Core.List.{List, [], _∷_}
-use Prim.Native.Nat.{ℕ, zero, suc, _<_}
+use Prim.Native.Nat.{ℕ, zero, suc, _≤_, _<_}
 use native.Mathlib.Nat.{le-of-suc-le-suc, not-suc-le-zero}
 use native.Mathlib.Omega.{arith}
 use lib.ListN.{length, take, getD}
 use lib.Seq.{length-take-le, getD-take}
 use lib.Ieee.{Float, Format, nan, lt}
-use Rattle.shape.specs.Checks.{refuse, firstRefusal, regularFitChecks, Positive}
-use Rattle.shape.specs.declared.answers.Answer.the-variants.{Accepted}
+use borrow.Author.Tests.{not-false}
+use Rattle.shape.specs.Shape.{size}
+use Rattle.shape.specs.Checks.{Check, refuse}
+use Rattle.shape.specs.Outcome.{Condition}
+use Rattle.shape.specs.Usable.{Usable}
 use Rattle.shape.proofs.Lengths.{or-false}
 use Rattle.shape.proofs.Below.{apart, none-at, any-none}
-use Rattle.shape.proofs.Accepted.{prefix-passed, usable-accepted, storage-is}
+use Rattle.shape.proofs.Accepted.{prefix-passed, usable}
+use Rattle.shape.proofs.Outcome.{Tests, none, test, total, append, shape-test, length-test}
 use Rattle.multibspline.specs.Numbers.{f0}
+use Rattle.regular.proofs.Total.{fit-tests}
 use Rattle.regular_weights.specs.declared.place.Loc.{Loc}
 use Rattle.regular_weights.specs.declared.place.Loc.the-variants as Loc
-use Rattle.evaluation.specs.Axes.{query}
-use Rattle.evaluation.proofs.Total as Evaluation
+use Rattle.evaluation.specs.Spline.{oneAnswer}
+use Rattle.evaluation.proofs.Total.{evaluation-total, one-accepted}
+use Rattle.evaluation.proofs.Placing.{axis-test}
 use Rattle.regular_blocks.specs.Map.{RegularMap}
 use Rattle.regular_blocks.specs.Eval.{isUnrepresentable, locOn, noPlaceOn, refuses}
 use Rattle.regular_blocks.specs.Checks.{anyStepBad, mapChecks, mapAnswer, fromValuesAnswer, regular}
-use Rattle.regular_map.specs.Total.{Sound, Representable, MapTotal, FromValuesTotal, OneTotal, BatchTotal, GradientBatchTotal}
-use Rattle.regular_map.proofs.Steps.{map-steps, map-numbered, map-usable, map-sized}
-use Rattle.regular_map.proofs.Builds.{values-passed}
+use Rattle.regular_map.specs.Place.{locAt}
+use Rattle.regular_map.specs.Total.{stepsCondition, Representable, mapConditions, MapTotal, FromValuesTotal, RegularTotal, PlaceTotal}
+use Rattle.regular_map.proofs.Steps.{map-numbered}
 
 -- ---- the steps
-
-not-false : (b : Bool) → not b ≡ false → b ≡ true
-not-false true e = refl
-not-false false e = absurd (let z : _≡_ {A = ℕ} 0 1 = cc in let q : ⊥ = omega arith in q)
 
 all-up : (ss : List Float) → anyStepBad ss ≡ false → (a : ℕ) → a < length ss → lt f0 (getD ss a nan) ≡ true
 unfolding anyStepBad
@@ -43,39 +45,33 @@ unfolding anyStepBad
 none-bad [] h = refl
 none-bad (s ∷ ss) h = rw (h 0 (omega arith)) (none-bad ss (λ a k. h (suc a) (omega arith)))
 
-five : (b : Bool) → _≡_ {A = ℕ} (cond b 5 0) 0 → b ≡ false
-five true e = absurd (omega (arith, e))
-five false e = refl
+steps-up : (count : ℕ) (steps : List Float) → count ≤ length steps → (anyStepBad (take count steps) ≡ false) ↔ ((a : ℕ) → a < count → lt f0 (getD steps a nan) ≡ true)
+steps-up count steps few =
+    let axes = length-take-le count steps few in (
+      (λ e a h. rw (getD-take count steps a nan h) at (all-up (take count steps) e a (rw axes h))),
+      (λ up. none-bad (take count steps) (λ a h.
+          let h′ : a < count = rw axes at h in
+          rw (getD-take count steps a nan h′) (up a h′))),
+    )
+
+pub steps-test : {cs : List Check} {ds : List Condition} (count : ℕ) (steps : List Float) → count ≤ length steps → Tests cs ds → Tests (refuse 5 (anyStepBad (take count steps)) ∷ cs) (stepsCondition count steps ∷ ds)
+steps-test count steps few rest = test refl (steps-up count steps few) (λ _. rest)
+
+-- ---- building
+
+module _ (count : ℕ) (lens : List ℕ) (steps : List Float) (four : length lens ≡ 4) (four′ : length steps ≡ 4) where
+  map-tests : (coefs : ℕ) → Tests (mapChecks count lens steps coefs) (mapConditions count lens steps coefs)
+  map-tests coefs =
+      shape-test count lens four (λ u. length-test (size (take count lens)) coefs (λ _. steps-test count steps (omega (arith, u .at-most-four)) none))
 
 pub map-total : MapTotal
-map-total count lens steps coefs four four′ = (there, back)
-  where
-    there : mapAnswer count lens steps coefs ≡ 0 → Sound count lens steps coefs
-    there e =
-        let u = map-usable count lens steps coefs {x = Accepted} refl (sym e) four in
-        let sized = map-sized count lens steps coefs {x = Accepted} refl (sym e) in
-        let ok = usable-accepted count lens four u in
-        let good = five (anyStepBad (take count steps)) (sym (map-steps count lens steps coefs ok (sized ∙ sym (storage-is count lens ok)) refl) ∙ e) in
-        let axes : length (take count steps) ≡ count = length-take-le count steps (omega (arith, u .at-most-four)) in
-        record { shape = u; sized = sized; steps-up = λ a h. rw (getD-take count steps a nan h) at (all-up (take count steps) good a (rw axes h)) }
-
-    back : Sound count lens steps coefs → mapAnswer count lens steps coefs ≡ 0
-    back s =
-        let ok = usable-accepted count lens four (s .shape) in
-        let axes : length (take count steps) ≡ count = length-take-le count steps (omega (arith, s .shape .at-most-four)) in
-        let good : anyStepBad (take count steps) ≡ false = none-bad (take count steps) (λ a h.
-        let h′ : a < count = rw axes at h in
-        rw (getD-take count steps a nan h′) (s .steps-up a h′)) in
-        map-steps count lens steps coefs ok (s .sized ∙ sym (storage-is count lens ok)) refl ∙ rw good
+unfolding mapAnswer
+map-total count lens steps coefs four four′ = total (map-tests count lens steps four four′ coefs)
 
 pub from-values-total : FromValuesTotal
 unfolding fromValuesAnswer
-from-values-total count lens steps samples coefs scratch four four′ = (
-  (λ e.
-      let z = prefix-passed (regularFitChecks count lens samples coefs scratch) (refuse 5 (anyStepBad (take count steps)) ∷ []) e in
-      (z, map-total count lens steps coefs four four′ .0 (sym (values-passed count lens steps samples coefs scratch four {x = Accepted} refl (sym z)) ∙ e))),
-  (λ w. values-passed count lens steps samples coefs scratch four {x = Accepted} refl (sym (w .0)) ∙ map-total count lens steps coefs four four′ .1 (w .1)),
-)
+from-values-total count lens steps samples coefs scratch four four′ =
+    total (append (fit-tests count lens samples coefs scratch four) (λ h. steps-test count steps (omega (arith, h .0 .1)) none))
 
 -- ---- the places
 
@@ -83,39 +79,32 @@ placed : (l : Loc) → l ≢ Loc.Unrepresentable → isUnrepresentable l ≡ fal
 placed (Loc.At sat origin) h = refl
 placed Loc.Unrepresentable h = absurd (h refl)
 
+has-place : (l : Loc) → (isUnrepresentable l ≡ false) ↔ (l ≢ Loc.Unrepresentable)
+has-place l = ((λ e bad. apart (isUnrepresentable l) (rw bad) e), placed l)
+
+pub place-total : PlaceTotal
+place-total f count lens starts steps a x four four′ =
+    total
+    (shape-test count lens four (λ u.
+    steps-test count steps (omega (arith, u .at-most-four)) (axis-test count a (test refl (has-place (locAt f lens starts steps a x)) (λ _. none)))))
+
 module _ (f : Format) (m : RegularMap) (x : List Float) where
   pub representable : (refuses f m x ≡ false) ↔ Representable f m x
   unfolding refuses
   representable = (
-    (λ e a h bad. apart (noPlaceOn f m x a) (rw bad) (none-at (noPlaceOn f m x) (m .count) e a h)),
-    (λ h. any-none (noPlaceOn f m x) (m .count) (λ a k. placed (locOn f m x a) (h a k))),
+    (λ e a h. has-place (locOn f m x a) .0 (none-at (noPlaceOn f m x) (m .count) e a h)),
+    (λ h. any-none (noPlaceOn f m x) (m .count) (λ a k. has-place (locOn f m x a) .1 (h a k))),
   )
 
--- ---- the calls that evaluate: the checks of the map, and its queries
+-- ---- values and gradients
 
-module _ (f : Format) (m : RegularMap) (coefs : List Float) (four : length (m .lens) ≡ 4) (four′ : length (m .steps) ≡ 4) where
-  sound : (firstRefusal (mapChecks (m .count) (m .lens) (m .steps) (length coefs)) ≡ 0) ↔ Sound (m .count) (m .lens) (m .steps) (length coefs)
-  unfolding mapAnswer
-  sound = map-total (m .count) (m .lens) (m .steps) (length coefs) four four′
+pub regular-total : RegularTotal
+regular-total f m coefs four four′ =
+    evaluation-total (regular f m coefs) (mapConditions (m .count) (m .lens) (m .steps) (length coefs)) (Representable f m)
+    (map-tests (m .count) (m .lens) (m .steps) four four′ (length coefs)) (map-numbered (m .count) (m .lens) (m .steps) (length coefs)) (representable f m)
 
-  numbered : Positive (regular f m coefs .checks)
-  numbered = map-numbered (m .count) (m .lens) (m .steps) (length coefs)
-
-pub one-total : OneTotal
-one-total f m coefs x four four′ =
-    let all = Evaluation.one-total (regular f m coefs) (numbered f m coefs four four′) x in
-    let s = sound f m coefs four four′ in
-    let r = representable f m (query (m .count) x 1 0) in
-    ((λ e. let w = all .0 e in (s .0 (w .0), w .1, r .0 (w .2))), (λ w. all .1 (s .1 (w .0), w .1, r .1 (w .2))))
-
-pub batch-total : BatchTotal
-batch-total f m coefs xs out four four′ =
-    let all = Evaluation.batch-total (regular f m coefs) (numbered f m coefs four four′) xs out in
-    let s = sound f m coefs four four′ in
-    ((λ e. let w = all .0 e in (s .0 (w .0), w .1)), (λ w. all .1 (s .1 (w .0), w .1)))
-
-pub gradient-batch-total : GradientBatchTotal
-gradient-batch-total f m coefs xs out four four′ =
-    let all = Evaluation.gradient-batch-total (regular f m coefs) (numbered f m coefs four four′) xs out in
-    let s = sound f m coefs four four′ in
-    ((λ e. let w = all .0 e in (s .0 (w .0), w .1, w .2)), (λ w. all .1 (s .1 (w .0), w .1, w .2)))
+-- what an answered query has
+pub one-answered : (f : Format) (m : RegularMap) (coefs x : List Float) → length (m .lens) ≡ 4 → oneAnswer (regular f m coefs) x ≡ 0 → Usable (m .count) (m .lens) × (length x ≡ m .count)
+one-answered f m coefs x four e =
+    let w = one-accepted (regular f m coefs) (map-numbered (m .count) (m .lens) (m .steps) (length coefs)) x e in
+    (usable (m .count) (m .lens) four (prefix-passed _ _ (w .0)), w .1)

@@ -5,9 +5,8 @@ ghost use mathlib.Core.List.{[], _∷_};
 ghost use Prim.Native.Nat.{_≤_};
 ghost use lib.ListN.{length, take};
 ghost use lib.Ieee.{binary64};
-ghost use Rattle.shape.specs.Checks.{firstRefusal, regularFitChecks};
 ghost use Rattle.multibspline.specs.Numbers.{f0};
-ghost use Rattle.regular.specs.Fit.{RegularFitted};
+ghost use Rattle.regular.specs.Fit.{RegularFitLeaves};
 ghost use Rattle.regular_map.specs.Map.{made, blank, RegularBuilt};
 ghost use Rattle.regular_map.specs.Records.{mapOf};
 ghost use Rattle.shape.specs.Refusal.{answerNumber, refusalNumber};
@@ -131,7 +130,7 @@ pub fn from_values(
     scratch: &mut [f64],
 ) -> Built
     ensures { λ r. ⌜ RegularBuilt (fromValuesAnswer count dims steps (length (now (vals .entry))) (length (now (coeffs .entry))) (length (now (scratch .entry)))) count dims starts steps linear (answerNumber (r .answer)) (mapOf (r .map)) ⌝ }
-    ensures { λ r. ⌜ RegularFitted binary64 count dims (now (vals .entry)) (now (coeffs .entry)) (now (scratch .entry)) (firstRefusal (regularFitChecks count dims (length (now (vals .entry))) (length (now (coeffs .entry))) (length (now (scratch .entry))))) (now (coeffs .exit)) (now (scratch .exit)) ⌝ }
+    ensures { λ r. ⌜ RegularFitLeaves binary64 count dims (now (vals .entry)) (now (coeffs .entry)) (now (scratch .entry)) (now (coeffs .exit)) (now (scratch .exit)) ⌝ }
 {
     let shape = Shape { count, dims };
     if let Answer::Refused(refusal) = regular::coefficients(shape, vals, coeffs, scratch) {

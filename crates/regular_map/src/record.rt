@@ -2,10 +2,9 @@
 ghost use mathlib.Core.Path.{_≡_};
 ghost use lib.ListN.{length};
 ghost use lib.Ieee.{binary64};
-ghost use Rattle.shape.specs.Checks.{firstRefusal, regularFitChecks};
 ghost use Rattle.shape.specs.Refusal.{answerNumber};
 ghost use Rattle.shape.specs.Sizes.{strideOf};
-ghost use Rattle.regular.specs.Fit.{RegularFitted};
+ghost use Rattle.regular.specs.Fit.{RegularFitLeaves};
 ghost use Rattle.evaluation.specs.Records.{valuedNumber, valuedValue};
 ghost use Rattle.evaluation.specs.Spline.{OneValue, OneGradient};
 ghost use Rattle.evaluation.specs.Batch.{ValueBatch, GradientBatch};
@@ -189,7 +188,7 @@ impl MultiBsplineRegular {
         linearize_extrapolation: bool,
     ) -> Built
         ensures { λ r. ⌜ RegularBuilt (fromValuesAnswer (shape .count) (shape .dims) steps (length (now (vals .entry))) (length (now (coeffs .entry))) (length (now (scratch .entry)))) (shape .count) (shape .dims) starts steps «linearize_extrapolation» (answerNumber (r .answer)) (mapOf (r .map)) ⌝ }
-        ensures { λ r. ⌜ RegularFitted binary64 (shape .count) (shape .dims) (now (vals .entry)) (now (coeffs .entry)) (now (scratch .entry)) (firstRefusal (regularFitChecks (shape .count) (shape .dims) (length (now (vals .entry))) (length (now (coeffs .entry))) (length (now (scratch .entry))))) (now (coeffs .exit)) (now (scratch .exit)) ⌝ }
+        ensures { λ r. ⌜ RegularFitLeaves binary64 (shape .count) (shape .dims) (now (vals .entry)) (now (coeffs .entry)) (now (scratch .entry)) (now (coeffs .exit)) (now (scratch .exit)) ⌝ }
     {
         let dims = shape.dims;
         build::from_values(

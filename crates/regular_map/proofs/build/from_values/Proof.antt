@@ -3,7 +3,6 @@ use native.Mathlib.Omega.{arith}
 use denote.Ref.{now}
 use lib.ListN.{length}
 use borrow.Author.Needs.{needs}
-use Rattle.shape.proofs.Fitted.{fitted-by}
 use Rattle.regular_blocks.specs.Checks.{mapAnswer}
 use Rattle.evaluation.proofs.Builds.{refused-with, built-at}
 use Rattle.regular_map.proofs.Builds.{values-refused, values-passed}
@@ -18,7 +17,7 @@ returns c =
       refused-with (k .refusal .given .0 .0)
           (values-refused (a .count) (a .dims) (a .steps) (length (now (a .vals))) (length (now (a .coeffs))) (length (now (a .scratch))) (k .refusal .given .1) (w .coefficients .ensures .answers))
           (c .refused .ensures .0) (c .refused .ensures .1),
-      fitted-by (w .coefficients .ensures),
+      w .coefficients .ensures .leaves,
     )
 
 returns-2 : tie.Need-returns-2
@@ -32,7 +31,7 @@ returns-2 c =
           (values-passed (a .count) (a .dims) (a .steps) (length (now (a .vals))) (length (now (a .coeffs))) (length (now (a .scratch))) (omega (arith, s .good)) (t .enum-told .given .1) (w .coefficients .ensures .answers)
           ∙ ap (mapAnswer (a .count) (a .dims) (a .steps)) (sym kept))
           (c .build .ensures),
-      fitted-by (w .coefficients .ensures),
+      w .coefficients .ensures .leaves,
     )
 
 pub from-values-spec : {M : Type 1} → statement M
