@@ -10,8 +10,8 @@ use Rattle.map_work.specs.Steps.{Kept}
 
 -- a long one: its first bytes and the rest
 module _ (input : List ℕ) (l : 32768 < length input) where
-  pub long-kept : Kept (length (take 32768 input)) (length (take (length input - 32768) (drop 32768 input)))
-  long-kept = let n = length-take-le 32768 input (omega arith) in record { most = rw n (omega arith); full = λ _. n }
+  pub long-kept : (spare : ℕ) → Kept (length (take 32768 input)) spare
+  long-kept spare = let n = length-take-le 32768 input (omega arith) in record { most = rw n (omega arith); full = λ _. n }
 
   pub long-printed : (expected : List ℕ) → program (take 32768 input ++ take (length input - 32768) (drop 32768 input)) ≡ expected → program input ≡ expected
   long-printed expected e =

@@ -14,7 +14,7 @@ compare-spec =
     (λ c. search needs)
     (λ c. search needs)
     (λ c. search needs)
-    (λ c κs. long-kept (c .before .before .before .before .before .args .input .now) (c .before .before .if1 .taken))
+    (λ c κs. long-kept (c .before .before .before .before .before .args .input .now) (c .before .before .if1 .taken) _)
     (λ c e. long-printed _ (c .before .before .before .if1 .taken) _ (c .compare-kept .ensures e))
     (λ c. search needs)
     (λ c. search needs)
