@@ -1,19 +1,15 @@
 -- What an accepted begin shows, and what it leaves a line call to check: scratch, and whether the line is due. Assumes nothing.
-use mathlib.Core.Path.{_≡_, refl, sym, _∙_}
-use mathlib.Core.Bool.{Bool, true, false, cond}
+use mathlib.Core.Path.{_≡_, sym, _∙_}
 use mathlib.Core.List.{List, [], _++_}
 use Prim.Native.Nat.{ℕ, _*_, _≤_}
-use lib.Dec.{eqb}
 use lib.ListN.{length, take}
-use Rattle.shape.specs.Shape.{longest, size, points, stride}
+use Rattle.shape.specs.Shape.{longest, size}
 use Rattle.shape.specs.Checks.{Check, firstRefusal, shapeChecks, scratchCheck, Positive}
 use Rattle.shape.proofs.Checks.{length-passes, length-passed, scratch-passed}
 use Rattle.shape.proofs.Accepted.{passed-append, prefix-passed, both-passed, accepted-append}
-use Rattle.shape.proofs.Scratch.{length-scratch}
-use Rattle.shape.proofs.Fit.{length-solveLine}
-use Rattle.book.specs.LineCall.{Call, State, dueChecks, beginChecks, beginAnswer, callChecks, callAnswer, lineCall, callScratch}
+use Rattle.book.specs.LineCall.{Call, State, dueChecks, beginChecks, beginAnswer, callChecks, callAnswer}
 use Rattle.book.specs.Due.{DueBytes}
-use Rattle.book.proofs.Bytes.{due-bytes, length-bumped}
+use Rattle.book.proofs.Bytes.{due-bytes}
 
 -- ---- begin, and a line call
 
@@ -86,28 +82,3 @@ module _ (count : ℕ) (lens : List ℕ) (grid knots : List Check) (pg : Positiv
         ∙ length-passes _ (size (take count lens)) (length (state .coefs)) hc
         ∙ length-passes _ (size (take count lens)) (length (state .ledger)) hl
         ∙ passed-append knots _ pk (ready .knots-passed)
-
--- ---- a call keeps the lengths of what it is lent
-
-keeps : {X : Type 0} (f : X → ℕ) (b : Bool) (x y : X) → f x ≡ f y → f (cond b x y) ≡ f y
-keeps f true x y e = e
-keeps f false x y e = refl
-
-module _ (count : ℕ) (lens : List ℕ) (grid knots : List Check) {A : Type 0} (o : A) (solve : ℕ → (ℕ → A) → ℕ → A) (call : Call A) (state : State A) where
-  pub length-coefs : length (lineCall count lens grid knots o solve call state .coefs) ≡ length (state .coefs)
-  unfolding lineCall
-  length-coefs =
-      keeps (λ (s : State A). length (s .coefs)) (eqb (callAnswer count lens grid knots call state) 0) _ state
-      (length-solveLine o (solve (call .axis)) (points (take count lens) (call .axis)) (stride (take count lens) (call .axis)) (call .line) (state .coefs))
-
-  pub length-ledger : length (lineCall count lens grid knots o solve call state .ledger) ≡ length (state .ledger)
-  unfolding lineCall
-  length-ledger =
-      keeps (λ (s : State A). length (s .ledger)) (eqb (callAnswer count lens grid knots call state) 0) _ state
-      (length-bumped (take count lens) (call .axis) (call .line) (state .ledger))
-
-  pub length-call-scratch : (upper : ℕ → (ℕ → A) → ℕ → A) → length (callScratch count lens grid knots o solve upper call state) ≡ length (call .scratch)
-  unfolding callScratch
-  length-call-scratch upper =
-      keeps (λ (s : List A). length s) (eqb (callAnswer count lens grid knots call state) 0) _ (call .scratch)
-      (length-scratch (longest (take count lens)) _ _ (points (take count lens) (call .axis)) (call .scratch))

@@ -9,12 +9,12 @@ use native.Mathlib.Omega.{arith}
 use lib.ListN.{length, getD, set, replicate}
 use lib.Dec.{ltb}
 use borrow.Author.Tests.{ltb-true, ltb-false, lt-ltb, le-ltb, not-false}
-use Rattle.shape.specs.Shape.{size, points, stride, lines, isLine, first, cellAt, lineAt, placeAt}
+use Rattle.shape.specs.Shape.{size, points, NotEmpty, stride, lines, isLine, first, cellAt, lineAt, placeAt}
 use Rattle.shape.specs.Cells.{onLine, line, writeLine}
 use Rattle.shape.specs.Checks.{firstRefusal}
 use Rattle.shape.specs.Fit.{along}
 use Rattle.shape.proofs.Cells.{length-put, put-next, line-apart, line-in, line-out}
-use Rattle.shape.proofs.Radix.{NotEmpty, stride-pos, lineAt-cellAt, cellAt-lineAt, placeAt-lt, cellAt-lt}
+use Rattle.shape.proofs.Radix.{stride-pos, lineAt-cellAt, cellAt-lineAt, placeAt-lt, cellAt-lt}
 use Rattle.shape.specs.Below.{anyBelow}
 use Rattle.book.specs.LineCall.{byteAbove, byteBelow, oneMore, bumped}
 use Rattle.book.specs.Due.{DueBytes, DueBytesMeans}
@@ -34,9 +34,9 @@ module _ (a base stride n : ℕ) (ledger : List ℕ) (i : ℕ) where
 pub bytes-are : (a base stride n : ℕ) (ledger : List ℕ) → anyBelow (byteAbove a base stride ledger) n ≡ false → anyBelow (byteBelow a base stride ledger) n ≡ false
     → (i : ℕ) → i < n → line 0 base stride ledger i ≡ a
 bytes-are a base stride n ledger p q i h =
-    let most : line 0 base stride ledger i ≤ a = ltb-false a _ (none-at (byteAbove a base stride ledger) n p i h) in
-    let least : a ≤ line 0 base stride ledger i = ltb-false _ a (none-at (byteBelow a base stride ledger) n q i h) in
-    omega arith
+    let most : byteAbove a base stride ledger i ≡ false = none-at (byteAbove a base stride ledger) n p i h in
+    let least : byteBelow a base stride ledger i ≡ false = none-at (byteBelow a base stride ledger) n q i h in
+    omega (arith, ltb-false)
 
 -- ---- a line is due to a call: each of its bytes is its axis's number
 

@@ -9,8 +9,8 @@ use native.Mathlib.Nat.{le-refl, eq-or-lt-of-le, le-of-suc-le-suc, not-suc-le-ze
 use native.Mathlib.Omega.{arith}
 use lib.ListN.{length}
 use borrow.Author.Tests.{not-true}
-use Rattle.shape.specs.Shape.{points, lines, cellAt, lineAt, placeAt}
-use Rattle.shape.proofs.Radix.{NotEmpty, lineAt-cellAt, cellAt-lineAt, placeAt-lt, lineAt-lt, cellAt-lt}
+use Rattle.shape.specs.Shape.{points, NotEmpty, lines, cellAt, lineAt, placeAt}
+use Rattle.shape.proofs.Radix.{lineAt-cellAt, cellAt-lineAt, placeAt-lt, lineAt-lt, cellAt-lt}
 use Rattle.book.specs.Book.{Book, isSolved, lowerSolved, isDue}
 use Rattle.book.specs.Due.{DueMeans}
 use Rattle.book.specs.Order.{AllSolved, SomeDue}

@@ -3,3 +3,4 @@ pub mod Answers
 pub mod DueMeans
 pub mod OneCall
 pub mod Order
+pub mod SameLengths

@@ -10,16 +10,16 @@ use native.Mathlib.Omega.{arith}
 use lib.ListN.{length, getD, take}
 use lib.Dec.{ltb, eqb}
 use borrow.Author.Tests.{ltb-true, ltb-false, lt-ltb, eq-eqb, eqb-true, not-false}
-use Rattle.shape.specs.Shape.{longest, size, points, stride, lines, isLine, first, cellAt, lineAt, placeAt}
+use Rattle.shape.specs.Shape.{longest, size, points, NotEmpty, stride, lines, isLine, first, cellAt, lineAt, placeAt}
 use Rattle.shape.specs.Checks.{Check, refuse, firstRefusal, scratchCheck, Positive}
-use Rattle.shape.specs.Fit.{solveLine, along, fitAfter}
+use Rattle.shape.specs.Fit.{Looks, solveLine, along, fitAfter}
 use Rattle.shape.proofs.Checks.{scratch-passed}
-use Rattle.shape.proofs.Radix.{NotEmpty, stride-pos, lineAt-cellAt, placeAt-lt, cellAt-lt}
-use Rattle.shape.proofs.Fit.{Looks, length-solveLine, solved-off, solved-on, fit-step}
+use Rattle.shape.proofs.Radix.{stride-pos, lineAt-cellAt, placeAt-lt, cellAt-lt}
+use Rattle.shape.proofs.Fit.{length-solveLine, solved-off, solved-on, fit-step}
 use Rattle.shape.specs.Below.{anyBelow, allBelow}
 use Rattle.book.specs.LineCall.{Call, State, byteAbove, byteBelow, dueChecks, bumped, callAnswer, lineCall}
-use Rattle.book.specs.Book.{Book, isSolved, lowerSolved, isDue, bookChecks, bookAnswer, bookCall, solvedLength}
-use Rattle.book.specs.Order.{sum}
+use Rattle.book.specs.Book.{Book, Fed, isSolved, lowerSolved, isDue, bookChecks, bookAnswer, bookCall, solvedLength}
+use Rattle.book.specs.Order.{fedOf, sum}
 use Rattle.shape.proofs.Below.{is-false, same-test, and-both, any-same, all-ext, all-not, all-ltb, sumBelow-ext, sumBelow-one}
 use Rattle.book.proofs.Bytes.{three-passed, is-line, length-bumped, bumped-off, bumped-on, sum-bumped}
 use Rattle.book.proofs.Answers.{Ready, call-left}
@@ -33,12 +33,12 @@ pub record Accepts (dims : List ℕ) (book : Book) (a l : ℕ) : Type 0 where
   pub unsolved : isSolved book a l ≡ false
   pub lower : lowerSolved dims book a l ≡ true
 
-pub book-accepts : {A : Type 0} (dims : List ℕ) (book : Book) (call : Call A) → bookAnswer dims book call ≡ 0 → Accepts dims book (call .axis) (call .line)
+pub book-accepts : (dims : List ℕ) (book : Book) (fed : Fed) → bookAnswer dims book fed ≡ 0 → Accepts dims book (fed .axis) (fed .line)
 unfolding bookChecks firstRefusal isDue
-book-accepts dims book call e =
-    let a : ℕ = call .axis in
-    let l : ℕ = call .line in
-    let s = scratch-passed (refuse 7 (not (isLine dims a l)) ∷ refuse 8 (isSolved book a l) ∷ refuse 9 (not (isDue dims book a l)) ∷ []) dims (length (call .scratch)) e in
+book-accepts dims book fed e =
+    let a : ℕ = fed .axis in
+    let l : ℕ = fed .line in
+    let s = scratch-passed (refuse 7 (not (isLine dims a l)) ∷ refuse 8 (isSolved book a l) ∷ refuse 9 (not (isDue dims book a l)) ∷ []) dims (fed .scratch) e in
     let t = three-passed (not (isLine dims a l)) (isSolved book a l) (not (isDue dims book a l)) (s .1) in
     let r = is-line dims a l (t .0) in
     let both = and-both (not (isSolved book a l)) (lowerSolved dims book a l) (not-false (isDue dims book a l) (t .2)) in
@@ -117,7 +117,7 @@ module _ {A : Type 0} (o : A) (solve : ℕ → (ℕ → A) → ℕ → A) (dims 
         go false false = refl
 
   same-left : (call : Call A)
-      → firstRefusal (scratchCheck dims (length (call .scratch)) ++ dueChecks dims (call .axis) (call .line) (state .ledger)) ≡ bookAnswer dims book call
+      → firstRefusal (scratchCheck dims (length (call .scratch)) ++ dueChecks dims (call .axis) (call .line) (state .ledger)) ≡ bookAnswer dims book (fedOf call)
   unfolding bookChecks firstRefusal
   same-left call =
       rest (ltb (length (call .scratch)) (2 * longest dims)) 4
@@ -235,14 +235,14 @@ module _ {A : Type 0} (o : A) (solve : ℕ → (ℕ → A) → ℕ → A) (dims 
 module _ {A : Type 0} (o : A) (solve : ℕ → (ℕ → A) → ℕ → A) (count : ℕ) (lens : List ℕ) (grid knots : List Check) (pg : Positive grid) (pk : Positive knots)
     (ready : Ready count lens grid knots) (samples : List A) (g : Given solve (take count lens) samples)
     (state : State A) (book : Book) (tied : Tied o solve (take count lens) samples state book) (call : Call A) where
-  pub same-answer : callAnswer count lens grid knots call state ≡ bookAnswer (take count lens) book call
+  pub same-answer : callAnswer count lens grid knots call state ≡ bookAnswer (take count lens) book (fedOf call)
   same-answer = call-left count lens grid knots pg pk call state ready (tied .coefs-size) (tied .ledger-size) ∙ same-left o solve (take count lens) samples g state book tied call
 
-  pub tied-next : Tied o solve (take count lens) samples (lineCall count lens grid knots o solve call state) (bookCall (take count lens) call book)
+  pub tied-next : Tied o solve (take count lens) samples (lineCall count lens grid knots o solve call state) (bookCall (take count lens) (fedOf call) book)
   unfolding lineCall bookCall next new-state new-book
-  tied-next = rw same-answer (go (eqb (bookAnswer (take count lens) book call) 0) refl)
+  tied-next = rw same-answer (go (eqb (bookAnswer (take count lens) book (fedOf call)) 0) refl)
     where
-      go : (t : Bool) → eqb (bookAnswer (take count lens) book call) 0 ≡ t
+      go : (t : Bool) → eqb (bookAnswer (take count lens) book (fedOf call)) 0 ≡ t
           → Tied o solve (take count lens) samples
           (cond t
           (record {
@@ -251,5 +251,5 @@ module _ {A : Type 0} (o : A) (solve : ℕ → (ℕ → A) → ℕ → A) (count
           })
           state)
           (cond t (record { axis = call .axis; number = call .line } ∷ book) book)
-      go true e = next o solve (take count lens) samples g state book tied (call .axis) (call .line) (book-accepts (take count lens) book call (eqb-true _ 0 e))
+      go true e = next o solve (take count lens) samples g state book tied (call .axis) (call .line) (book-accepts (take count lens) book (fedOf call) (eqb-true _ 0 e))
       go false e = tied

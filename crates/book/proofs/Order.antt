@@ -9,16 +9,16 @@ use lib.ListN.{length, getD, take, replicate, length-replicate, getD-replicate}
 use lib.Seq.{ext-getD}
 use lib.Dec.{ltb}
 use borrow.Author.Tests.{le-ltb}
-use Rattle.shape.specs.Shape.{size, lines, cellAt, lineAt}
+use Rattle.shape.specs.Shape.{size, NotEmpty, lines, cellAt, lineAt}
 use Rattle.shape.specs.Checks.{Check, Positive}
 use Rattle.shape.specs.Usable.{Usable}
 use Rattle.shape.specs.Fit.{fitAfter, fit}
 use Rattle.shape.proofs.Accepted.{usable, axes-are, usable-not-empty, room}
-use Rattle.shape.proofs.Radix.{NotEmpty, lineAt-cellAt, cellAt-lt, lineAt-lt}
+use Rattle.shape.proofs.Radix.{lineAt-cellAt, cellAt-lt, lineAt-lt}
 use Rattle.shape.proofs.Fit.{length-fitAfter}
 use Rattle.book.specs.LineCall.{Call, State, callAnswer, lineCall, after, answers, begun}
 use Rattle.book.specs.Book.{Book, isSolved, bookAnswer, bookCall, bookAfter, bookAnswers, solvedThrough, solvedLength}
-use Rattle.book.specs.Order.{AllSolved, Agrees, Claim, OrderNeverShows, SameEnd}
+use Rattle.book.specs.Order.{fedOf, fedList, AllSolved, Agrees, Claim, OrderNeverShows, SameEnd}
 use Rattle.shape.proofs.Below.{count-ext, count-ltb, count-all, count-full, sumBelow-zero}
 use Rattle.book.proofs.Bytes.{sum-zeros}
 use Rattle.book.proofs.Answers.{Ready, begin-passed}
@@ -92,17 +92,17 @@ module _ {A : Type 0} (o : A) (solve : ℕ → (ℕ → A) → ℕ → A) (dims 
 module _ {A : Type 0} (o : A) (solve : ℕ → (ℕ → A) → ℕ → A) (count : ℕ) (lens : List ℕ) (grid knots : List Check) (pg : Positive grid) (pk : Positive knots)
     (ready : Ready count lens grid knots) (samples : List A) (g : Given solve (take count lens) samples) where
   same : (calls : List (Call A)) (state : State A) (book : Book) → Tied o solve (take count lens) samples state book
-      → answers count lens grid knots o solve calls state ≡ bookAnswers (take count lens) calls book
+      → answers count lens grid knots o solve calls state ≡ bookAnswers (take count lens) (fedList calls) book
   unfolding answers bookAnswers
   same [] state book tied = refl
   same (call ∷ calls) state book tied =
-      let e₁ : callAnswer count lens grid knots call state ≡ bookAnswer (take count lens) book call = same-answer o solve count lens grid knots pg pk ready samples g state book tied call in
-      let e₂ : answers count lens grid knots o solve calls (lineCall count lens grid knots o solve call state) ≡ bookAnswers (take count lens) calls (bookCall (take count lens) call book) =
+      let e₁ : callAnswer count lens grid knots call state ≡ bookAnswer (take count lens) book (fedOf call) = same-answer o solve count lens grid knots pg pk ready samples g state book tied call in
+      let e₂ : answers count lens grid knots o solve calls (lineCall count lens grid knots o solve call state) ≡ bookAnswers (take count lens) (fedList calls) (bookCall (take count lens) (fedOf call) book) =
       same calls _ _ (tied-next o solve count lens grid knots pg pk ready samples g state book tied call) in
       cc
 
   kept : (calls : List (Call A)) (state : State A) (book : Book) → Tied o solve (take count lens) samples state book
-      → Tied o solve (take count lens) samples (after count lens grid knots o solve calls state) (bookAfter (take count lens) calls book)
+      → Tied o solve (take count lens) samples (after count lens grid knots o solve calls state) (bookAfter (take count lens) (fedList calls) book)
   unfolding after bookAfter
   kept [] state book tied = tied
   kept (call ∷ calls) state book tied = kept calls _ _ (tied-next o solve count lens grid knots pg pk ready samples g state book tied call)

@@ -9,7 +9,6 @@ use lib.ListN.{length}
 use Rattle.shape.specs.Below.{allBelow, howMany, sumBelow}
 use Rattle.shape.specs.Shape.{points, lines, isLine, cellAt, lineAt}
 use Rattle.shape.specs.Checks.{Check, refuse, firstRefusal, scratchCheck}
-use Rattle.book.specs.LineCall.{Call}
 
 -- a line: its axis, and its number on it
 pub record Line : Type 0 where
@@ -35,28 +34,34 @@ isDue dims book a l = not (isSolved book a l) && lowerSolved dims book a l
 
 -- ---- a call: too little scratch answers 4; no such axis or line, 7; a solved line, 8; one not due, 9
 
-unfoldable pub bookChecks : {A : Type 0} → List ℕ → Book → Call A → List Check
-bookChecks dims book call =
-    let a = call .axis in
-    let l = call .line in
-    scratchCheck dims (length (call .scratch)) ++ (refuse 7 (not (isLine dims a l)) ∷ refuse 8 (isSolved book a l) ∷ refuse 9 (not (isDue dims book a l)) ∷ [])
+-- what the book is fed of a call: its axis, its line, and the length of its scratch
+pub record Fed : Type 0 where
+  pub axis : ℕ
+  pub line : ℕ
+  pub scratch : ℕ
 
-abbrev pub bookAnswer : {A : Type 0} → List ℕ → Book → Call A → ℕ
-bookAnswer dims book call = firstRefusal (bookChecks dims book call)
+unfoldable pub bookChecks : List ℕ → Book → Fed → List Check
+bookChecks dims book fed =
+    let a = fed .axis in
+    let l = fed .line in
+    scratchCheck dims (fed .scratch) ++ (refuse 7 (not (isLine dims a l)) ∷ refuse 8 (isSolved book a l) ∷ refuse 9 (not (isDue dims book a l)) ∷ [])
+
+abbrev pub bookAnswer : List ℕ → Book → Fed → ℕ
+bookAnswer dims book fed = firstRefusal (bookChecks dims book fed)
 
 -- a due line is accepted and from then on solved; a refusal changes nothing
-unfoldable pub bookCall : {A : Type 0} → List ℕ → Call A → Book → Book
-bookCall dims call book = cond (eqb (bookAnswer dims book call) 0) (record { axis = call .axis; number = call .line } ∷ book) book
+unfoldable pub bookCall : List ℕ → Fed → Book → Book
+bookCall dims fed book = cond (eqb (bookAnswer dims book fed) 0) (record { axis = fed .axis; number = fed .line } ∷ book) book
 
 -- ---- a list of calls
 
-unfoldable pub bookAfter : {A : Type 0} → List ℕ → List (Call A) → Book → Book
+unfoldable pub bookAfter : List ℕ → List Fed → Book → Book
 bookAfter dims [] book = book
-bookAfter dims (call ∷ calls) book = bookAfter dims calls (bookCall dims call book)
+bookAfter dims (fed ∷ rest) book = bookAfter dims rest (bookCall dims fed book)
 
-unfoldable pub bookAnswers : {A : Type 0} → List ℕ → List (Call A) → Book → List ℕ
+unfoldable pub bookAnswers : List ℕ → List Fed → Book → List ℕ
 bookAnswers dims [] book = []
-bookAnswers dims (call ∷ calls) book = bookAnswer dims book call ∷ bookAnswers dims calls (bookCall dims call book)
+bookAnswers dims (fed ∷ rest) book = bookAnswer dims book fed ∷ bookAnswers dims rest (bookCall dims fed book)
 
 -- ---- what the book says of a cell, and of the ledger
 

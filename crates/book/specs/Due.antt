@@ -6,10 +6,9 @@ use mathlib.Core.List.{List}
 use mathlib.Core.Logic.{_↔_}
 use Prim.Native.Nat.{ℕ, _<_}
 use lib.ListN.{length}
-use Rattle.shape.specs.Shape.{size, points, lines, lineAt}
+use Rattle.shape.specs.Shape.{size, points, NotEmpty, lines, lineAt}
 use Rattle.shape.specs.Checks.{firstRefusal}
 use Rattle.shape.specs.Fit.{along}
-use Rattle.shape.proofs.Radix.{NotEmpty}
 use Rattle.book.specs.LineCall.{dueChecks}
 use Rattle.book.specs.Book.{Book, isSolved, isDue}
 

@@ -1,17 +1,22 @@
 -- Demand 3, order never shows: one claim about any list of line calls, from what an accepted begin leaves. Assumes nothing.
 use mathlib.Core.Path.{_≡_}
 use mathlib.Core.Bool.{true}
-use mathlib.Core.List.{List, [], _∷_}
+use mathlib.Core.List.{List, [], _∷_, map}
 use mathlib.Core.Logic.{_⊎_, _↔_}
 use Prim.Native.Nat.{ℕ, _+_, _≤_, _<_}
 use lib.ListN.{length, take, getD}
-use Rattle.shape.specs.Shape.{size, points, lines}
+use Rattle.shape.specs.Shape.{size, points, NotEmpty, lines}
 use Rattle.shape.specs.Checks.{Check, Positive}
-use Rattle.shape.specs.Fit.{fitAfter, fit}
-use Rattle.shape.proofs.Radix.{NotEmpty}
-use Rattle.shape.proofs.Fit.{Looks}
+use Rattle.shape.specs.Fit.{Looks, fitAfter, fit}
 use Rattle.book.specs.LineCall.{Call, State, beginAnswer, after, answers, begun}
-use Rattle.book.specs.Book.{Book, isSolved, isDue, bookAfter, bookAnswers, solvedThrough, solvedLength}
+use Rattle.book.specs.Book.{Book, Fed, isSolved, isDue, bookAfter, bookAnswers, solvedThrough, solvedLength}
+
+-- what the book is fed of a call, and of each call of a list
+abbrev pub fedOf : {A : Type 0} → Call A → Fed
+fedOf call = record { axis = call .axis; line = call .line; scratch = length (call .scratch) }
+
+abbrev pub fedList : {A : Type 0} → List (Call A) → List Fed
+fedList calls = map fedOf calls
 
 unfoldable pub sum : List ℕ → ℕ
 sum [] = 0
@@ -45,8 +50,8 @@ pub record Agrees {A : Type 0} (o : A) (solve : ℕ → (ℕ → A) → ℕ → 
 -- the claim about a list of calls
 pub record Claim {A : Type 0} (o : A) (solve : ℕ → (ℕ → A) → ℕ → A) (count : ℕ) (lens : List ℕ) (grid knots : List Check) (samples : List A) (calls : List (Call A)) : Type 0 where
   -- the answers are the book's, one by one
-  pub same-answers : answers count lens grid knots o solve calls (begun (take count lens) samples) ≡ bookAnswers (take count lens) calls []
-  pub agrees : Agrees o solve (take count lens) samples (after count lens grid knots o solve calls (begun (take count lens) samples)) (bookAfter (take count lens) calls [])
+  pub same-answers : answers count lens grid knots o solve calls (begun (take count lens) samples) ≡ bookAnswers (take count lens) (fedList calls) []
+  pub agrees : Agrees o solve (take count lens) samples (after count lens grid knots o solve calls (begun (take count lens) samples)) (bookAfter (take count lens) (fedList calls) [])
 
 -- For any solver that looks at its own line only, on axes of at least four points, and any checks of a grid that refuse with a
 -- number above 0: after an accepted begin the claim holds of every list of calls.

@@ -1,6 +1,5 @@
 -- The scope's example of the map program, computed: the bytes that it reads, the bytes that it prints. Assumes nothing.
 use mathlib.Core.Path.{_≡_, refl}
-use mathlib.Core.Bool.{false}
 use mathlib.Core.List.{List, [], _∷_, _++_}
 use Prim.Native.Nat.{ℕ}
 use lib.ListN.{replicate}
@@ -58,6 +57,6 @@ output =
     ++ (row (byte 86 ∷ byte 48 ∷ zero ∷ zero ∷ [])
     ++ row (byte 84 ∷ byte 49 ∷ byte 48 ∷ []))
 
-pub example : program false input ≡ output
+pub example : program input ≡ output
 unfolding input output row byte zero one program Program.first Program.shaped Program.shapeNumber Program.second Program.third Program.fitted Program.queries lines fields floatsIn rowIn rest decimalIn areDecimals decimalsOf isByte headIn digitOf letterOf numberFrom digitsOf bitsIn bitsText floatIn floatText floatsText widthOf countText mapLine answerLine totalLine anyBelow regularAxisOutside rowLength mapNumber surface made anyStepBad inUse query oneAnswer getLoc locOf pastOrigin lt valueAt partAt refuses firstOver sumBelow locOn weightsOn slopesOn gradientPart summed dot4 mulAdd interpWeights interpWeightDerivatives spanDerivatives scaled cubicBsplineWeights cubicBsplineWeightDerivatives firstRefusal anyShort product firstCell lineOf solveLine solveLines fitAfter add sub mul div ofInt ofBits toBits
 example = refl

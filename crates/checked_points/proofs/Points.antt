@@ -10,15 +10,13 @@ use mathlib.Core.Bool.{Bool, true, false}
 use mathlib.Core.List.{List, [], _∷_}
 use Prim.Native.Nat.{ℕ}
 use lib.IntN.{pos, negsuc}
-use lib.ListN.{replicate}
 use lib.Ieee.{Float, fin, binary64, lt, add, sub, mul, div, neg, ofInt, ofBits}
 use Rattle.shape.specs.Shape.{product, longest, stride, first, firstCell, lineOf}
 use Rattle.shape.specs.Fit.{solveLine, solveLines, fitAfter}
 use Rattle.shape.specs.Checks.{firstRefusal}
-use Rattle.book.specs.LineCall.{Call}
 use Rattle.shape.specs.Below.{allBelow, sumBelow}
+use Rattle.book.specs.Book.{Book, Fed, isSolved, lowerSolved, isDue, bookChecks, bookCall, bookAnswers}
 use Rattle.evaluation.specs.Axes.{firstOver}
-use Rattle.book.specs.Book.{Book, isSolved, lowerSolved, isDue, bookChecks, bookCall, bookAnswers}
 use Rattle.interp_math.specs.Sum.{mulAdd, dot4, summed, gradientPart}
 use Rattle.multibspline.specs.Numbers.{f0, f1, f2, f3, f4}
 use Rattle.multibspline.specs.declared.saturation.Saturation.the-variants.{None, InsideLow, OutsideLow, InsideHigh, OutsideHigh}
@@ -68,8 +66,8 @@ slope : Bool → Float → Float
 slope linear x = partAt binary64 (four linear) (f0 ∷ f1 ∷ f2 ∷ f3 ∷ []) (x ∷ f0 ∷ f0 ∷ f0 ∷ []) 0
 
 -- a call of k with just enough scratch, and lines of axis 0 solved
-call : ℕ → ℕ → Call ℕ
-call axis line = record { axis = axis; line = line; scratch = replicate 8 0 }
+call : ℕ → ℕ → Fed
+call axis line = record { axis = axis; line = line; scratch = 8 }
 
 solved : List ℕ → Book
 solved [] = []

@@ -5,6 +5,7 @@ pub mod Batches
 pub mod Outcomes
 pub mod Total
 pub mod Builds
+pub mod Placing
 pub mod Blocks
 pub mod Striding
 pub mod Rows

@@ -3,5 +3,6 @@ pub mod Spline
 pub mod Batch
 pub mod Total
 pub mod Built
+pub mod Place
 pub mod Block
 pub mod Records

@@ -20,7 +20,7 @@ pub record Reading (base : ℕ) (text : List ℕ) (n i : ℕ) : Type 0 where
 pub Reading-start : (base : ℕ) (text : List ℕ) → Reading base text 0 0
 Reading-start base text = record { within = omega arith; below = rw pow-zero (omega arith); rest = refl }
 
-module _ (base : ℕ) (text : List ℕ) (n i d : ℕ) (h : Reading base text n i) (l : i < length text) (e : d ≡ digitOf (getD text i 0)) where
+module _ (base : ℕ) (text : List ℕ) (n i d : ℕ) (h : Reading base text n i) (l : i < length text) where
   pub Reading-below : d < base → n * base + d < base ^ (i + 1)
   Reading-below g = rw (add-one i, pow-suc base i) (digits-lt (h .below) g)
 
@@ -31,17 +31,18 @@ module _ (base : ℕ) (text : List ℕ) (n i d : ℕ) (h : Reading base text n i
   pub Reading-mul : d < base → base ^ length text ≤ 2 ^ 64 → n * base < 2 ^ 64
   Reading-mul g room = omega (arith, Reading-fits g room)
 
-  pub Reading-step : d < base → Reading base text (n * base + d) (i + 1)
-  unfolding numberFrom
-  Reading-step g = record {
-    within = omega arith;
-    below = Reading-below g;
-    rest = h .rest ∙ rw (add-one i, drop-cons text i 0 l, ← e, lt-ltb d base g);
-  }
+  module _ (e : d ≡ digitOf (getD text i 0)) where
+    pub Reading-step : d < base → Reading base text (n * base + d) (i + 1)
+    unfolding numberFrom
+    Reading-step g = record {
+      within = omega arith;
+      below = Reading-below g;
+      rest = h .rest ∙ rw (add-one i, drop-cons text i 0 l, ← e, lt-ltb d base g);
+    }
 
-  pub Reading-bad : base ≤ d → Unreadable ≡ numberFrom base 0 text
-  unfolding numberFrom
-  Reading-bad g = sym (h .rest ∙ rw (drop-cons text i 0 l, ← e, le-ltb d base g))
+    pub Reading-bad : base ≤ d → Unreadable ≡ numberFrom base 0 text
+    unfolding numberFrom
+    Reading-bad g = sym (h .rest ∙ rw (drop-cons text i 0 l, ← e, le-ltb d base g))
 
 pub Reading-done : (base : ℕ) (text : List ℕ) (n i : ℕ) → Reading base text n i → length text ≤ i → Bits n ≡ numberFrom base 0 text
 unfolding numberFrom

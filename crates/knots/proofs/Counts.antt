@@ -24,7 +24,7 @@ count-le-length [] x = omega arith
 count-le-length (k ∷ ks) x = omega (arith, one-or-none (lt k x), count-le-length ks x)
 
 -- nothing is below a NaN
-not-below-nan : (k : Float) → lt k nan ≡ false
+pub not-below-nan : (k : Float) → lt k nan ≡ false
 unfolding lt
 not-below-nan nan = refl
 not-below-nan (inf s) = refl

@@ -111,7 +111,7 @@ module _ (grid : List Float) (dims : List ℕ) where
   all-rise (suc k) h = rw (all-rise k (λ a l. h a (omega arith)), h k (omega arith))
 
   -- one that does not is enough to refuse
-  not-all-rise : (k a : ℕ) → a < k → rises (knotsOf grid dims a) ≡ false → allRise grid dims k ≡ false
+  pub not-all-rise : (k a : ℕ) → a < k → rises (knotsOf grid dims a) ≡ false → allRise grid dims k ≡ false
   not-all-rise k a h e = go (allRise grid dims k) refl
     where
       go : (t : Bool) → allRise grid dims k ≡ t → t ≡ false

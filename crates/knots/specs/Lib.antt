@@ -2,3 +2,4 @@ pub mod Knots
 pub mod Joined
 pub mod Place
 pub mod Checks
+pub mod NanKnots

@@ -8,8 +8,8 @@ use native.Mathlib.Omega.{arith}
 use lib.ListN.{length, getD}
 use Rattle.shape.specs.Shape.{firstCell, lineOf, placeOf}
 use Rattle.shape.specs.Cells.{onLine, line}
-use Rattle.shape.specs.Fit.{solveLine, solveLines}
-use Rattle.shape.proofs.Fit.{Looks, length-solveLine, solved-off, solved-on}
+use Rattle.shape.specs.Fit.{Looks, solveLine, solveLines}
+use Rattle.shape.proofs.Fit.{length-solveLine, solved-off, solved-on}
 use Rattle.shape.proofs.Radix.{lineOf-cell, placeOf-lt}
 use Rattle.lanes.specs.Lanes.{solveFrom}
 

@@ -8,11 +8,11 @@ use lib.ListN.{length, set, take, length-set}
 use lib.Ieee.{Float, nan}
 use Rattle.shape.specs.Shape.{product, firstCell, lineOf, placeOf}
 use Rattle.shape.specs.Cells.{put, from, onLine, line}
-use Rattle.shape.specs.Fit.{solveLine, solveLines, lineScratch, lineLeaves}
+use Rattle.shape.specs.Fit.{Looks, solveLine, solveLines, lineScratch, lineLeaves}
 use Rattle.shape.specs.Usable.{LinesWithin}
 use Rattle.shape.proofs.Accepted.{AxisIs}
 use Rattle.shape.proofs.Cells.{length-put, put-next, put-ext, from-in}
-use Rattle.shape.proofs.Fit.{Looks, length-solveLines, earlier}
+use Rattle.shape.proofs.Fit.{length-solveLines, earlier}
 use Rattle.shape.proofs.Radix.{quot, rem, lineOf-cell, placeOf-cell}
 use Rattle.multibspline.specs.Thomas.{at}
 use Rattle.lanes.specs.Lanes.{Lanes, solveFrom, zeroSamples, Uppers}
@@ -193,13 +193,13 @@ uppers-hold upper n u₀ u same e fits = record {
 
 -- ---- what an axis leaves in scratch
 
--- its last line lies within the solved coefficients, and there is room for it after the upper numbers
-pub keep-room : (c : (ℕ → Float) → ℕ → Float) (n s total m b : ℕ) (xs₀ ss₀ xs ss : List Float) (g : ℕ → Float) → LinesWithin n s total m (length xs₀) (length ss₀) → 0 < total
-    → b ≡ firstCell n s (total - 1) → xs ≡ solveLines nan c n s total xs₀ → ss ≡ put (from 0) g n ss₀ → (onLine b s (n - 1) < length xs) × (m + n ≤ length ss)
-keep-room c n s total m b xs₀ ss₀ xs ss g w pos eb ex es =
+-- each of its lines lies within the solved coefficients, and there is room for it after the upper numbers
+pub keep-room : (c : (ℕ → Float) → ℕ → Float) (n s total m b l : ℕ) (xs₀ ss₀ xs ss : List Float) (g : ℕ → Float) → LinesWithin n s total m (length xs₀) (length ss₀)
+    → b ≡ firstCell n s l → xs ≡ solveLines nan c n s total xs₀ → ss ≡ put (from 0) g n ss₀ → l < total → (onLine b s (n - 1) < length xs) × (m + n ≤ length ss)
+keep-room c n s total m b l xs₀ ss₀ xs ss g w eb ex es h =
     let lx : length xs ≡ length xs₀ = ap length ex ∙ length-solveLines nan c n s total xs₀ in
     let ls : length ss ≡ length ss₀ = ap length es ∙ length-put (from 0) g n ss₀ in
-    (rw (lx, eb) (w .inside (total - 1) (omega arith)), rw ls (w .right-room))
+    (rw (lx, eb) (w .inside l h), rw ls (w .right-room))
 
 module _ (upper c : (ℕ → Float) → ℕ → Float) (n s total m : ℕ) (xs₀ ss₀ : List Float) (w : LinesWithin n s total m (length xs₀) (length ss₀)) (pos : 0 < total) (looks : Looks c n) where
   -- the last line has its coefficients

@@ -15,7 +15,7 @@ use lib.Ieee.{Float, nan}
 use Rattle.shape.specs.Shape.{firstCell, lineOf, placeOf}
 use Rattle.shape.specs.Cells.{onLine, line}
 use Rattle.shape.proofs.Cells.{lt-or-ge}
-use Rattle.shape.proofs.Fit.{Looks}
+use Rattle.shape.specs.Fit.{Looks}
 use Rattle.shape.proofs.Radix.{cell-lineOf, placeOf-lt}
 use Rattle.multibspline.specs.Thomas.{at}
 use Rattle.lanes.specs.Lanes.{Lanes, solveFrom, swept, sweepUp, sweepDown}

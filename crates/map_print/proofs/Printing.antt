@@ -22,6 +22,10 @@ Wrote-then {xs = xs} {ys = ys} p q = record {
   text = q .text ∙ rw (p .text, append-assoc);
 }
 
+-- the same bytes, in other words
+pub Wrote-as : {old new : List ℕ} {at next : ℕ} {xs ys : List ℕ} → xs ≡ ys → Wrote old at xs new next → Wrote old at ys new next
+Wrote-as {old} {new} {at} {next} e w = subst (λ (t : List ℕ). Wrote old at t new next) e w
+
 pub Wrote-put : (old : List ℕ) (at b : ℕ) → at < length old → Wrote old at (b ∷ []) (set old at b) (at + 1)
 Wrote-put old at b l = record { place = refl; text = rw (add-one at) (take-suc-set old at b l) }
 

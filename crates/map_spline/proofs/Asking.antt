@@ -2,43 +2,34 @@
 use mathlib.Core.Path.{_≡_, refl, sym, ap, _∙_}
 use mathlib.Core.Bool.{Bool, true, false, cond, _&&_}
 use mathlib.Core.List.{List}
-use Prim.Native.Nat.{ℕ, suc, _-_, _<_}
+use Prim.Native.Nat.{ℕ}
 use native.Mathlib.Omega.{arith}
-use lib.Dec.{eqb, lit<}
+use lib.Dec.{eqb}
 use lib.ListN.{length, take}
 use lib.Ieee.{Float, binary64}
 use borrow.Author.Tests.{eq-eqb, ne-eqb}
 use Rattle.shape.specs.Refusal.{refusalNumber}
 use Rattle.shape.specs.declared.answers.Refusal.{Refusal}
-use Rattle.shape.specs.declared.answers.Refusal.the-variants as Refusal
-use Rattle.shape.specs.Usable.{Usable}
-use Rattle.shape.proofs.Accepted.{refusal-suc}
+use Rattle.shape.specs.Checks.{firstRefusal, Positive}
+use Rattle.shape.proofs.Accepted.{refusal-suc, both-passed}
+use Rattle.shape.proofs.Checks.{length-passed}
 use Rattle.multibspline.specs.Numbers.{f0}
 use Rattle.evaluation.specs.Axes.{zeros, query}
-use Rattle.evaluation.specs.Spline.{oneAnswer, gradient, OneValue, OneGradient}
+use Rattle.evaluation.specs.Spline.{Spline, oneAnswer, gradient, OneValue, OneGradient}
 use Rattle.evaluation.specs.Records.{valuedNumber, valuedValue}
 use Rattle.evaluation.specs.declared.answers.Valued.{Valued}
 use Rattle.evaluation.specs.declared.answers.Valued.the-variants.{Value, Refused}
 use Rattle.regular_blocks.specs.Map.{RegularMap}
 use Rattle.regular_blocks.specs.Checks.{regular}
-use Rattle.regular_map.proofs.Total as Regular
+use Rattle.regular_map.specs.Place.{recordChecks}
+use Rattle.regular_map.proofs.Steps as Regular
+use Rattle.regular_map.proofs.Placing.{map-record}
 use Rattle.rectilinear_blocks.specs.Map.{RectilinearMap}
 use Rattle.rectilinear_blocks.specs.Eval.{rectilinear}
-use Rattle.rectilinear_blocks.specs.Sound.{Gridded}
-use Rattle.rectilinear_map.proofs.Total as Rectilinear
-use Rattle.map_spline.specs.Surface.{Surface, Replied}
-
--- a refusal's number has one digit
-refusal-digit : (r : Refusal) → refusalNumber r < 10
-refusal-digit Refusal.AxisCount = lit< tt
-refusal-digit Refusal.DimensionMismatch = lit< tt
-refusal-digit Refusal.TooManyPoints = lit< tt
-refusal-digit Refusal.ScratchTooSmall = lit< tt
-refusal-digit Refusal.NotIncreasing = lit< tt
-refusal-digit Refusal.Unrepresentable = lit< tt
-refusal-digit Refusal.NoSuchLine = lit< tt
-refusal-digit Refusal.AlreadySolved = lit< tt
-refusal-digit Refusal.NotDue = lit< tt
+use Rattle.rectilinear_map.specs.Place.{gridChecks}
+use Rattle.rectilinear_map.proofs.Checks as Rectilinear
+use Rattle.rectilinear_map.proofs.Placing.{map-grid}
+use Rattle.map_spline.specs.Surface.{Surface, askedValue, askedGradient, Replied}
 
 module _ (s : Surface) (x : List Float) (v : Valued) (h : OneValue (s .spline) x (valuedNumber v) (valuedValue v)) where
   module _ (value : Float) (told : v ≡ Value value) where
@@ -52,37 +43,58 @@ module _ (s : Surface) (x : List Float) (v : Valued) (h : OneValue (s .spline) x
         let yes′ : eqb answer 0 ≡ true = eq-eqb answer 0 (g .answers ∙ accepted) in
         record {
           the-number = sym accepted;
-          the-value = λ _. sym (ap valuedValue told) ∙ h .valued ∙ ap (λ (t : Bool). cond t (s .spline .value q) f0) (eq-eqb (valuedNumber v) 0 (ap valuedNumber told));
-          the-gradient = λ _. ap (take (s .spline .axes)) (g .gradient ∙ ap (λ (t : Bool). cond t (gradient (s .spline) q) zeros) yes′);
+          the-value = sym (ap valuedValue told) ∙ h .valued ∙ ap (λ (t : Bool). cond t (s .spline .value q) f0) (eq-eqb (valuedNumber v) 0 (ap valuedNumber told));
+          the-gradient = g .gradient ∙ ap (λ (t : Bool). cond t (gradient (s .spline) q) zeros) yes′;
           is-outside = o ∙ ap (λ (t : Bool). t && s .outside x) (sym yes);
-          one-digit = lit< tt;
-          four-parts = ap length (g .gradient ∙ ap (λ (t : Bool). cond t (gradient (s .spline) q) zeros) yes′);
         }
 
   pub replied-refused : (refusal : Refusal) → v ≡ Refused refusal → (number : ℕ) (value : Float) (outside : Bool) (parts : List Float)
-      → number ≡ refusalNumber refusal → outside ≡ false → parts ≡ zeros → Replied s x number value outside parts
-  replied-refused refusal told number value outside parts n o z =
+      → number ≡ refusalNumber refusal → value ≡ f0 → outside ≡ false → parts ≡ zeros → Replied s x number value outside parts
+  replied-refused refusal told number value outside parts n w o z =
+      let q = query (s .spline .axes) x 1 0 in
       let same : refusalNumber refusal ≡ oneAnswer (s .spline) x = sym (ap valuedNumber told) ∙ h .answers in
       let above = refusal-suc refusal in
-      let no : eqb (oneAnswer (s .spline) x) 0 ≡ false = ne-eqb (oneAnswer (s .spline) x) 0 (λ z. omega (arith, same, above, z)) in
+      let no : eqb number 0 ≡ false = ne-eqb number 0 (λ e. omega (arith, n, above, e)) in
+      let no′ : eqb (oneAnswer (s .spline) x) 0 ≡ false = ne-eqb (oneAnswer (s .spline) x) 0 (λ e. omega (arith, same, above, e)) in
       record {
         the-number = n ∙ same;
-        the-value = λ z. absurd (let q : ⊥ = omega (arith, n, above, z) in q);
-        the-gradient = λ z. absurd (let q : ⊥ = omega (arith, n, above, z) in q);
-        is-outside = o ∙ ap (λ (t : Bool). t && s .outside x) (sym no);
-        one-digit = rw n (refusal-digit refusal);
-        four-parts = ap length z;
+        the-value = w ∙ ap (λ (t : Bool). cond t (s .spline .value q) f0) (sym no);
+        the-gradient = z ∙ ap (λ (t : Bool). cond t (gradient (s .spline) q) zeros) (sym no);
+        is-outside = o ∙ ap (λ (t : Bool). t && s .outside x) (sym no′);
       }
 
--- what an answered query says of the map
-pub regular-asked : (m : RegularMap) (coefs x : List Float) (v : Valued) (value : Float) → length (m .lens) ≡ 4 → length (m .steps) ≡ 4
-    → OneValue (regular binary64 m coefs) x (valuedNumber v) (valuedValue v) → v ≡ Value value → Usable (m .count) (m .lens) × (length x ≡ m .count)
-regular-asked m coefs x v value four four′ h told =
-    let w = Regular.one-total binary64 m coefs x four four′ .0 (sym (h .answers) ∙ ap valuedNumber told) in
-    (w .0 .shape, w .1)
+-- ---- what a reply says
 
-pub rectilinear-asked : (m : RectilinearMap) (grid coefs x : List Float) (v : Valued) (value : Float) → length (m .lens) ≡ 4
-    → OneValue (rectilinear binary64 m grid coefs) x (valuedNumber v) (valuedValue v) → v ≡ Value value → Gridded (m .count) (m .lens) grid × (length x ≡ m .count)
-rectilinear-asked m grid coefs x v value four h told =
-    let w = Rectilinear.one-total binary64 m grid coefs x four .0 (sym (h .answers) ∙ ap valuedNumber told) in
-    (w .0 .gridded, w .1)
+module _ {s : Surface} {x : List Float} {number : ℕ} {value : Float} {outside : Bool} {parts : List Float} (r : Replied s x number value outside parts) where
+  pub four-parts : length parts ≡ 4
+  four-parts = ap length (r .the-gradient) ∙ go (eqb number 0)
+    where
+      go : (t : Bool) → length (cond t (gradient (s .spline) (query (s .spline .axes) x 1 0)) zeros) ≡ 4
+      go true = refl
+      go false = refl
+
+  pub replied-value : number ≡ 0 → value ≡ askedValue s x
+  replied-value z = r .the-value ∙ ap (λ (t : Bool). cond t (askedValue s x) f0) (eq-eqb number 0 z)
+
+  pub replied-gradient : number ≡ 0 → take (s .spline .axes) parts ≡ askedGradient s x
+  replied-gradient z =
+      ap (take (s .spline .axes)) (r .the-gradient ∙ ap (λ (t : Bool). cond t (gradient (s .spline) (query (s .spline .axes) x 1 0)) zeros) (eq-eqb number 0 z))
+
+-- what an answered query says of the map, whose checks have passed, and of its length
+asked : (s : Spline) → Positive (s .checks) → (x : List Float) → oneAnswer s x ≡ 0 → (firstRefusal (s .checks) ≡ 0) × (length x ≡ s .axes)
+unfolding oneAnswer
+asked s pos x e =
+    let w = both-passed (s .checks) _ pos e in
+    (w .0, length-passed _ (s .axes) (length x) (w .1) .0)
+
+pub regular-asked : (m : RegularMap) (coefs x : List Float) (v : Valued) (value : Float) → OneValue (regular binary64 m coefs) x (valuedNumber v) (valuedValue v) → v ≡ Value value
+    → (firstRefusal (recordChecks (m .count) (m .lens) (m .steps)) ≡ 0) × (length x ≡ m .count)
+regular-asked m coefs x v value h told =
+    let w = asked (regular binary64 m coefs) (Regular.map-numbered (m .count) (m .lens) (m .steps) (length coefs)) x (sym (h .answers) ∙ ap valuedNumber told) in
+    (map-record (m .count) (m .lens) (m .steps) (length coefs) (w .0), w .1)
+
+pub rectilinear-asked : (m : RectilinearMap) (grid coefs x : List Float) (v : Valued) (value : Float) → OneValue (rectilinear binary64 m grid coefs) x (valuedNumber v) (valuedValue v) → v ≡ Value value
+    → (firstRefusal (gridChecks (m .count) (m .lens) grid) ≡ 0) × (length x ≡ m .count)
+rectilinear-asked m grid coefs x v value h told =
+    let w = asked (rectilinear binary64 m grid coefs) (Rectilinear.map-numbered (m .count) (m .lens) grid (length coefs)) x (sym (h .answers) ∙ ap valuedNumber told) in
+    (map-grid (m .count) (m .lens) grid (length coefs) (w .0), w .1)

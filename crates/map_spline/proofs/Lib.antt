@@ -1,3 +1,4 @@
 pub mod Axes
 pub mod Making
 pub mod Asking
+pub mod Digits

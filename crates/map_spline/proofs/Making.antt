@@ -29,8 +29,17 @@ use Rattle.rectilinear.specs.Fit.{rectilinearFit, rectilinearFitChecks}
 use Rattle.rectilinear.proofs.FitChecks as RectilinearFit
 use Rattle.rectilinear_map.specs.Map as Rectilinear
 use Rattle.rectilinear_blocks.specs.Map.{RectilinearMap}
-use Rattle.map_spline.specs.Surface.{Surface, regularSurface, rectilinearSurface, regularOf, rectilinearOf, regularNumber, rectilinearNumber, Lent, MadeFrom}
+use Rattle.map_spline.specs.Surface.{Surface, regularSurface, rectilinearSurface, regularOf, rectilinearOf, regularRefused, rectilinearRefused, regularNumber, rectilinearNumber, Lent, MadeFrom}
 use Rattle.map_spline.proofs.Axes.{in-use, query-in-use, query-take}
+
+-- what is made of the one or the other
+by-answer : {A B : Type 0} (t : Bool) (f : A → B) (a b : A) → f (cond t a b) ≡ cond t (f a) (f b)
+by-answer true f a b = refl
+by-answer false f a b = refl
+
+by-answer₂ : {A B C : Type 0} (t : Bool) (f : A → B → C) (a b : A) (c d : B) → f (cond t a b) (cond t c d) ≡ cond t (f a c) (f b d)
+by-answer₂ true f a b c d = refl
+by-answer₂ false f a b c d = refl
 
 module _ (linear : Bool) (count : ℕ) (lens : List ℕ) (row samples coefs scratch : List Float) (wanted : ℕ) (four : length lens ≡ 4)
     (l : Lent count lens wanted (length row) (length samples) (length coefs) (length scratch)) where
@@ -66,20 +75,21 @@ module _ (linear : Bool) (count : ℕ) (lens : List ℕ) (row samples coefs scra
         ∙ map-steps count lens steps (length coefs) ok (l .coefs-are ∙ sym (storage-is count lens ok)) (ap anyStepBad (sym steps-are))
         ∙ rw axes
 
-    made-is : Regular.made count lens starts steps linear ≡ Regular.made (length (take count lens)) (take count lens) (take (length (take count lens)) row) (drop (length (take count lens)) row) linear
+    same-map : Regular.made count lens starts steps linear ≡ Regular.made (length (take count lens)) (take count lens) (take (length (take count lens)) row) (drop (length (take count lens)) row) linear
     unfolding Regular.made
-    made-is = rw (axes, lens-used, es, et, query-in-use count (take count row) few, query-in-use count (drop count row) few)
+    same-map = rw (axes, lens-used, es, et, query-in-use count (take count row) few, query-in-use count (drop count row) few)
 
     pub regular-made : (answer : ℕ) (handed : RegularMap) (coefs′ scratch′ left : List Float)
         → BuiltFrom (fromValuesAnswer count lens steps (length samples) (length coefs) (length scratch)) (Regular.made count lens starts steps linear) Regular.blank answer handed
         → Fitted (firstRefusal (regularFitChecks count lens (length samples) (length coefs) (length scratch))) (regularFit binary64 (take count lens) samples) left coefs scratch (firstRefusal (regularFitChecks count lens (length samples) (length coefs) (length scratch))) coefs′ scratch′
-        → MadeFrom (regularNumber (take count lens) row) (regularOf binary64 linear (take count lens) row samples) answer (regularSurface binary64 handed coefs′)
+        → MadeFrom (regularNumber (take count lens) row) (regularOf binary64 linear (take count lens) row samples) (regularRefused binary64 (take count lens) samples) answer (regularSurface binary64 handed coefs′)
     regular-made answer handed coefs′ scratch′ left b w = record {
       answers = b .answers ∙ number;
-      map = λ z.
+      map =
           ap₂ (λ (m : RegularMap) (cs : List Float). regularSurface binary64 m cs)
-          (b .map ∙ ap (λ (t : Bool). cond t (Regular.made count lens starts steps linear) Regular.blank) (eq-eqb _ 0 (sym (b .answers) ∙ z)) ∙ made-is)
-          (w .coefficients ∙ ap (λ (t : Bool). cond t (regularFit binary64 (take count lens) samples) coefs) (eq-eqb _ 0 (sym fits)));
+          (b .map ∙ ap (λ (n : ℕ). cond (eqb n 0) (Regular.made count lens starts steps linear) Regular.blank) (sym (b .answers)) ∙ ap (λ (m : RegularMap). cond (eqb answer 0) m Regular.blank) same-map)
+          (w .coefficients ∙ ap (λ (t : Bool). cond t (regularFit binary64 (take count lens) samples) coefs) (eq-eqb _ 0 (sym fits)))
+          ∙ by-answer (eqb answer 0) (λ m. regularSurface binary64 m (regularFit binary64 (take count lens) samples)) _ _;
     }
 
   -- ---- rectilinear
@@ -103,13 +113,14 @@ module _ (linear : Bool) (count : ℕ) (lens : List ℕ) (row samples coefs scra
     pub rectilinear-made : (answer : ℕ) (handed : RectilinearMap) (coefs′ scratch′ left : List Float)
         → BuiltFrom (firstRefusal (rectilinearFitChecks count lens row (length samples) (length coefs) (length scratch))) (Rectilinear.made binary64 count lens row linear) Rectilinear.blank answer handed
         → Fitted (firstRefusal (rectilinearFitChecks count lens row (length samples) (length coefs) (length scratch))) (rectilinearFit binary64 row (take count lens) samples) left coefs scratch answer coefs′ scratch′
-        → MadeFrom (rectilinearNumber (take count lens) row) (rectilinearOf binary64 linear (take count lens) row samples) answer (rectilinearSurface binary64 handed row coefs′)
+        → MadeFrom (rectilinearNumber (take count lens) row) (rectilinearOf binary64 linear (take count lens) row samples) (rectilinearRefused binary64 row coefs) answer (rectilinearSurface binary64 handed row coefs′)
     rectilinear-made answer handed coefs′ scratch′ left b w = record {
       answers = b .answers ∙ number-of;
-      map = λ z.
+      map =
           ap₂ (λ (m : RectilinearMap) (cs : List Float). rectilinearSurface binary64 m row cs)
-          (b .map ∙ ap (λ (t : Bool). cond t (Rectilinear.made binary64 count lens row linear) Rectilinear.blank) (eq-eqb _ 0 (sym (b .answers) ∙ z)) ∙ rectilinear-is)
-          (w .coefficients ∙ ap (λ (t : Bool). cond t (rectilinearFit binary64 row (take count lens) samples) coefs) (eq-eqb answer 0 z));
+          (b .map ∙ ap (λ (n : ℕ). cond (eqb n 0) (Rectilinear.made binary64 count lens row linear) Rectilinear.blank) (sym (b .answers)) ∙ ap (λ (m : RectilinearMap). cond (eqb answer 0) m Rectilinear.blank) rectilinear-is)
+          (w .coefficients)
+          ∙ by-answer₂ (eqb answer 0) (λ m cs. rectilinearSurface binary64 m row cs) _ _ _ _;
     }
 
 -- ---- either grid
@@ -118,6 +129,10 @@ pub lent-at : {count : ℕ} {lens : List ℕ} {wanted wanted′ row samples coef
     → Lent count lens wanted′ row samples coefs scratch
 lent-at e l = record { shape = l .shape; row-is = l .row-is ∙ e; samples-are = l .samples-are; coefs-are = l .coefs-are; scratch-room = l .scratch-room }
 
-pub made-at : {expected expected′ : ℕ} {made made′ : Surface} {number number′ : ℕ} {s : Surface} → expected ≡ expected′ → made ≡ made′ → number′ ≡ number
-    → MadeFrom expected made number s → MadeFrom expected′ made′ number′ s
-made-at e m n h = record { answers = n ∙ h .answers ∙ e; map = λ z. h .map (sym n ∙ z) ∙ m }
+pub made-at : {expected expected′ : ℕ} {made made′ refused refused′ : Surface} {number number′ : ℕ} {s : Surface} → expected ≡ expected′ → made ≡ made′ → refused ≡ refused′ → number′ ≡ number
+    → MadeFrom expected made refused number s → MadeFrom expected′ made′ refused′ number′ s
+made-at e m f n h = record { answers = n ∙ h .answers ∙ e; map = rw (n, ← m, ← f) (h .map) }
+
+-- a map that is not refused
+pub made-is : {expected : ℕ} {made refused : Surface} {number : ℕ} {s : Surface} → MadeFrom expected made refused number s → number ≡ 0 → s ≡ made
+made-is {made = made} {refused = refused} h z = h .map ∙ ap (λ (t : Bool). cond t made refused) (eq-eqb _ 0 z)

@@ -10,8 +10,8 @@ use Rattle.multibspline.specs.declared.saturation.Saturation.{Saturation}
 use Rattle.multibspline.specs.declared.saturation.Saturation.the-variants.{None, InsideLow, OutsideLow, InsideHigh, OutsideHigh}
 use Rattle.regular_weights.specs.declared.place.Loc.{Loc}
 use Rattle.regular_weights.specs.declared.place.Loc.the-variants.{At, Unrepresentable}
-use Rattle.regular_weights.specs.Place.{getLoc}
-use Rattle.rectilinear_blocks.specs.Eval.{locOn}
+use Rattle.regular_map.specs.Place as Regular
+use Rattle.rectilinear_map.specs.Place as Rectilinear
 
 abbrev pub isOutside : Saturation → Bool
 isOutside None = false
@@ -27,11 +27,10 @@ isOutsideLoc Unrepresentable = false
 
 -- axis a of a regular map, and of a rectilinear one
 unfoldable pub regularAxisOutside : Format → List ℕ → List Float → List Float → List Float → ℕ → Bool
-regularAxisOutside f lens starts steps x a =
-    isOutsideLoc (getLoc f (getD lens a 0) (getD starts a nan) (getD steps a nan) (getD x a nan))
+regularAxisOutside f lens starts steps x a = isOutsideLoc (Regular.locAt f lens starts steps a (getD x a nan))
 
 unfoldable pub rectilinearAxisOutside : ℕ → List ℕ → List Float → List Float → ℕ → Bool
-rectilinearAxisOutside count lens grid x a = isOutside (locOn count lens grid x a .sat)
+rectilinearAxisOutside count lens grid x a = isOutside (Rectilinear.locAt count lens grid a (getD x a nan) .sat)
 
 -- the query
 abbrev pub regularOutside : Format → ℕ → List ℕ → List Float → List Float → List Float → Bool

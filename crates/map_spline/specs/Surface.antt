@@ -4,7 +4,7 @@
 use mathlib.Core.Path.{_≡_}
 use mathlib.Core.Bool.{Bool, cond, _&&_}
 use mathlib.Core.List.{List}
-use Prim.Native.Nat.{ℕ, _*_, _≤_, _<_}
+use Prim.Native.Nat.{ℕ, _*_, _≤_}
 use lib.Dec.{eqb}
 use lib.ListN.{length, take, drop}
 use lib.Ieee.{Float, Format, binary64}
@@ -13,7 +13,8 @@ use Rattle.shape.specs.Usable.{Usable}
 use Rattle.knots.specs.Joined.{total, allRise}
 use Rattle.regular.specs.Fit.{regularFit}
 use Rattle.rectilinear.specs.Fit.{rectilinearFit}
-use Rattle.evaluation.specs.Axes.{query}
+use Rattle.multibspline.specs.Numbers.{f0}
+use Rattle.evaluation.specs.Axes.{zeros, query}
 use Rattle.evaluation.specs.Spline.{Spline, oneAnswer, gradient}
 use Rattle.regular_map.specs.Map as Regular
 use Rattle.regular_map.specs.Records as RegularRecord
@@ -56,6 +57,13 @@ rectilinearOf f linear dims row samples = rectilinearSurface f (Rectilinear.made
 abbrev pub rectilinearNumber : List ℕ → List Float → ℕ
 rectilinearNumber dims row = cond (allRise row dims (length dims)) 0 5
 
+-- where the map is refused, its record is blank; by then a regular fit has been made, and a rectilinear one has not
+abbrev pub regularRefused : Format → List ℕ → List Float → Surface
+regularRefused f dims samples = regularSurface f Regular.blank (regularFit f dims samples)
+
+abbrev pub rectilinearRefused : Format → List Float → List Float → Surface
+rectilinearRefused f row coefs = rectilinearSurface f Rectilinear.blank row coefs
+
 -- by what line 1 says: how many floats line 2 has, M's number, and the map
 unfoldable pub rowLength : Head → ℕ
 rowLength h = cond (h .regular) (2 * length (h .dims)) (total (h .dims))
@@ -97,16 +105,15 @@ pub record Lent (count : ℕ) (lens : List ℕ) (wanted row samples coefs scratc
   pub coefs-are : coefs ≡ size (take count lens)
   pub scratch-room : 2 * longest (take count lens) ≤ scratch
 
--- a map is built, or refused with a number
-pub record MadeFrom (expected : ℕ) (made : Surface) (number : ℕ) (s : Surface) : Type 0 where
+-- a map is built, or refused with a number; `refused` is what then stands in its place. Free: scratch, which nobody reads
+-- again, and the record of the other grid, which no query looks at
+pub record MadeFrom (expected : ℕ) (made refused : Surface) (number : ℕ) (s : Surface) : Type 0 where
   pub answers : number ≡ expected
-  pub map : number ≡ 0 → s ≡ made
+  pub map : s ≡ cond (eqb number 0) made refused
 
--- a query is asked
+-- a query is asked; value and gradient are zeros where it is refused
 pub record Replied (s : Surface) (x : List Float) (number : ℕ) (value : Float) (outside : Bool) (parts : List Float) : Type 0 where
   pub the-number : number ≡ askedNumber s x
-  pub the-value : number ≡ 0 → value ≡ askedValue s x
-  pub the-gradient : number ≡ 0 → take (s .spline .axes) parts ≡ askedGradient s x
+  pub the-value : value ≡ cond (eqb number 0) (askedValue s x) f0
+  pub the-gradient : parts ≡ cond (eqb number 0) (gradient (s .spline) (query (s .spline .axes) x 1 0)) zeros
   pub is-outside : outside ≡ askedOutside s x
-  pub one-digit : number < 10
-  pub four-parts : length parts ≡ 4

@@ -9,7 +9,7 @@ ghost use Rattle.knots.specs.Joined.{total};
 ghost use Rattle.evaluation.specs.Axes.{query};
 ghost use Rattle.regular_map.specs.Records as Regular;
 ghost use Rattle.rectilinear_map.specs.Records as Rectilinear;
-ghost use Rattle.map_spline.specs.Surface.{regularSurface, rectilinearSurface, regularOf, rectilinearOf, regularNumber, rectilinearNumber, surfaceOf, Lent, MadeFrom};
+ghost use Rattle.map_spline.specs.Surface.{regularSurface, rectilinearSurface, regularOf, rectilinearOf, regularRefused, rectilinearRefused, regularNumber, rectilinearNumber, surfaceOf, Lent, MadeFrom};
 use rectilinear_map::MultiBsplineRectilinear;
 use regular_map::MultiBsplineRegular;
 use shape::Shape;
@@ -53,7 +53,7 @@ fn make_regular(
     scratch: &mut [f64],
 ) -> regular_map::Built
     requires { ⌜ Lent count dims (2 * count) (length (now row)) (length (now samples)) (length (now coeffs)) (length (now scratch)) ⌝ }
-    ensures { λ r. ⌜ MadeFrom (regularNumber (take count dims) (now (row .entry))) (regularOf binary64 linear (take count dims) (now (row .entry)) (now (samples .entry))) (answerNumber (r .answer)) (regularSurface binary64 (Regular.mapOf (r .map)) (now (coeffs .exit))) ⌝ }
+    ensures { λ r. ⌜ MadeFrom (regularNumber (take count dims) (now (row .entry))) (regularOf binary64 linear (take count dims) (now (row .entry)) (now (samples .entry))) (regularRefused binary64 (take count dims) (now (samples .entry))) (answerNumber (r .answer)) (regularSurface binary64 (Regular.mapOf (r .map)) (now (coeffs .exit))) ⌝ }
 {
     let starts = starts_of(row, count);
     let steps = steps_of(row, count);
@@ -78,7 +78,7 @@ fn make_rectilinear(
     scratch: &mut [f64],
 ) -> rectilinear_map::Built
     requires { ⌜ Lent count dims (total (take count dims)) (length (now row)) (length (now samples)) (length (now coeffs)) (length (now scratch)) ⌝ }
-    ensures { λ r. ⌜ MadeFrom (rectilinearNumber (take count dims) (now (row .entry))) (rectilinearOf binary64 linear (take count dims) (now (row .entry)) (now (samples .entry))) (answerNumber (r .answer)) (rectilinearSurface binary64 (Rectilinear.mapOf (r .map)) (now (row .entry)) (now (coeffs .exit))) ⌝ }
+    ensures { λ r. ⌜ MadeFrom (rectilinearNumber (take count dims) (now (row .entry))) (rectilinearOf binary64 linear (take count dims) (now (row .entry)) (now (samples .entry))) (rectilinearRefused binary64 (now (row .entry)) (now (coeffs .entry))) (answerNumber (r .answer)) (rectilinearSurface binary64 (Rectilinear.mapOf (r .map)) (now (row .entry)) (now (coeffs .exit))) ⌝ }
 {
     MultiBsplineRectilinear::from_values_with_workspace(
         Shape { count, dims },
@@ -102,7 +102,7 @@ pub fn make(
     scratch: &mut [f64],
 ) -> Made
     requires { ⌜ Lent count dims (cond regular (2 * count) (total (take count dims))) (length (now row)) (length (now samples)) (length (now coeffs)) (length (now scratch)) ⌝ }
-    ensures { λ r. ⌜ MadeFrom (cond regular (regularNumber (take count dims) (now (row .entry))) (rectilinearNumber (take count dims) (now (row .entry)))) (cond regular (regularOf binary64 linear (take count dims) (now (row .entry)) (now (samples .entry))) (rectilinearOf binary64 linear (take count dims) (now (row .entry)) (now (samples .entry)))) (r .number) (surfaceOf (r .map) (now (row .entry)) (now (coeffs .exit))) ⌝ }
+    ensures { λ r. ⌜ MadeFrom (cond regular (regularNumber (take count dims) (now (row .entry))) (rectilinearNumber (take count dims) (now (row .entry)))) (cond regular (regularOf binary64 linear (take count dims) (now (row .entry)) (now (samples .entry))) (rectilinearOf binary64 linear (take count dims) (now (row .entry)) (now (samples .entry)))) (cond regular (regularRefused binary64 (take count dims) (now (samples .entry))) (rectilinearRefused binary64 (now (row .entry)) (now (coeffs .entry)))) (r .number) (surfaceOf (r .map) (now (row .entry)) (now (coeffs .exit))) ⌝ }
 {
     if regular {
         let built = make_regular(linear, count, dims, row, samples, coeffs, scratch);

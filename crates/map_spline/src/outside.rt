@@ -1,14 +1,15 @@
 // Whether a query is outside: some axis has an Outside place for it.
 ghost use mathlib.Core.Path.{_≡_};
-ghost use Prim.Native.Nat.{_≤_, _<_};
+ghost use Prim.Native.Nat.{_<_};
 ghost use lib.ListN.{length};
 ghost use lib.Ieee.{binary64};
-ghost use Rattle.shape.specs.Usable.{Usable};
-ghost use Rattle.regular_weights.specs.Place.{getLoc};
-ghost use Rattle.rectilinear_blocks.specs.Sound.{Gridded};
-ghost use Rattle.map_spline.specs.Outside.{isOutside, isOutsideLoc, rectilinearAxisOutside, regularOutside, rectilinearOutside};
+ghost use Rattle.shape.specs.Checks.{firstRefusal};
+ghost use Rattle.regular_map.specs.Place as Regular;
+ghost use Rattle.rectilinear_map.specs.Place as Rectilinear;
+ghost use Rattle.map_spline.specs.Outside.{isOutside, isOutsideLoc, regularOutside, rectilinearOutside};
 use multibspline::Saturation;
-use regular_weights::Loc;
+use rectilinear_map::MultiBsplineRectilinear;
+use regular_map::MultiBsplineRegular;
 
 fn is_outside(sat: Saturation) -> bool
     ensures { λ r. ⌜ r ≡ isOutside sat ⌝ }
@@ -22,29 +23,24 @@ fn is_outside(sat: Saturation) -> bool
     }
 }
 
-fn regular_axis(n: usize, start: f64, step: f64, x: f64) -> bool
-    requires { ⌜ 4 ≤ n ⌝ }
-    ensures { λ r. ⌜ r ≡ isOutsideLoc (getLoc binary64 n start step x) ⌝ }
+// One axis of a map whose record is accepted.
+fn regular_axis(map: MultiBsplineRegular, axis: usize, x: f64) -> bool
+    requires { ⌜ (firstRefusal (Regular.recordChecks (map .count) (map .dims) (map .steps)) ≡ 0) × (axis < map .count) ⌝ }
+    ensures { λ r. ⌜ r ≡ isOutsideLoc (Regular.locAt binary64 (map .dims) (map .starts) (map .steps) axis x) ⌝ }
 {
-    match regular_weights::get_loc(n, start, step, x) {
-        Loc::At(sat, _) => is_outside(sat),
-        Loc::Unrepresentable => false,
+    match map.place(axis, x) {
+        regular_map::Placed::At(sat, _) => is_outside(sat),
+        regular_map::Placed::Refused(_) => false,
     }
 }
 
-pub fn regular_outside(
-    count: usize,
-    dims: [usize; 4],
-    starts: [f64; 4],
-    steps: [f64; 4],
-    x: &[f64],
-) -> bool
-    requires { ⌜ Usable count dims × (length (now x) ≡ count) ⌝ }
-    ensures { λ r. ⌜ r ≡ regularOutside binary64 count dims starts steps (now (x .entry)) ⌝ }
+pub fn regular_outside(map: MultiBsplineRegular, x: &[f64]) -> bool
+    requires { ⌜ (firstRefusal (Regular.recordChecks (map .count) (map .dims) (map .steps)) ≡ 0) × (length (now x) ≡ map .count) ⌝ }
+    ensures { λ r. ⌜ r ≡ regularOutside binary64 (map .count) (map .dims) (map .starts) (map .steps) (now (x .entry)) ⌝ }
 {
     let mut a: usize = 0;
-    while a < count {
-        if regular_axis(dims[a], starts[a], steps[a], x[a]) {
+    while a < x.len() {
+        if regular_axis(map, a, x[a]) {
             return true;
         }
         a += 1;
@@ -52,22 +48,27 @@ pub fn regular_outside(
     false
 }
 
-fn rectilinear_axis(count: usize, dims: [usize; 4], grid: &[f64], x: &[f64], a: usize) -> bool
-    requires { ⌜ Gridded count dims (now grid) × (length (now x) ≡ count) × (a < count) ⌝ }
-    ensures { λ r. ⌜ r ≡ rectilinearAxisOutside count dims (now (grid .entry)) (now (x .entry)) a ⌝ }
+// One axis of a map whose record and grid are accepted.
+fn rectilinear_axis(map: MultiBsplineRectilinear, grid: &[f64], axis: usize, x: f64) -> bool
+    requires { ⌜ (firstRefusal (Rectilinear.gridChecks (map .count) (map .dims) (now grid)) ≡ 0) × (axis < map .count) ⌝ }
+    ensures { λ r. ⌜ r ≡ isOutside (Rectilinear.locAt (map .count) (map .dims) (now (grid .entry)) axis x .sat) ⌝ }
 {
-    let loc = knots::get_loc(knots::axis_knots(grid, count, dims, a), x[a]);
-    let sat = loc.sat;
-    is_outside(sat)
+    match map.place(grid, axis, x) {
+        rectilinear_map::Placed::At(loc) => {
+            let sat = loc.sat;
+            is_outside(sat)
+        }
+        rectilinear_map::Placed::Refused(_) => false,
+    }
 }
 
-pub fn rectilinear_outside(count: usize, dims: [usize; 4], grid: &[f64], x: &[f64]) -> bool
-    requires { ⌜ Gridded count dims (now grid) × (length (now x) ≡ count) ⌝ }
-    ensures { λ r. ⌜ r ≡ rectilinearOutside count dims (now (grid .entry)) (now (x .entry)) ⌝ }
+pub fn rectilinear_outside(map: MultiBsplineRectilinear, grid: &[f64], x: &[f64]) -> bool
+    requires { ⌜ (firstRefusal (Rectilinear.gridChecks (map .count) (map .dims) (now grid)) ≡ 0) × (length (now x) ≡ map .count) ⌝ }
+    ensures { λ r. ⌜ r ≡ rectilinearOutside (map .count) (map .dims) (now (grid .entry)) (now (x .entry)) ⌝ }
 {
     let mut a: usize = 0;
-    while a < count {
-        if rectilinear_axis(count, dims, grid, x, a) {
+    while a < x.len() {
+        if rectilinear_axis(map, grid, a, x[a]) {
             return true;
         }
         a += 1;

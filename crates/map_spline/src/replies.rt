@@ -3,6 +3,7 @@ ghost use mathlib.Core.Path.{_≡_};
 ghost use mathlib.Core.Bool.{false};
 ghost use lib.Ieee.{binary64};
 ghost use Rattle.shape.specs.Refusal.{refusalNumber};
+ghost use Rattle.multibspline.specs.Numbers.{f0};
 ghost use Rattle.evaluation.specs.Axes.{zeros};
 ghost use Rattle.regular_map.specs.Records as Regular;
 ghost use Rattle.rectilinear_map.specs.Records as Rectilinear;
@@ -17,7 +18,7 @@ use rectilinear_weights::Ghost;
 use regular_map::MultiBsplineRegular;
 use shape::Refusal;
 
-// The number of a query; where it is 0, the value and the gradient; whether it counts as outside.
+// The number of a query; the value and the gradient, zeros where it is refused; whether it counts as outside.
 pub struct Reply {
     pub number: u64,
     pub value: f64,
@@ -26,7 +27,7 @@ pub struct Reply {
 }
 
 fn refused(refusal: Refusal) -> Reply
-    ensures { λ r. ⌜ (r .number ≡ refusalNumber refusal) × (r .outside ≡ false) × (r .parts ≡ zeros) ⌝ }
+    ensures { λ r. ⌜ (r .number ≡ refusalNumber refusal) × (r .value ≡ f0) × (r .outside ≡ false) × (r .parts ≡ zeros) ⌝ }
 {
     Reply {
         number: refusal.number(),
@@ -58,7 +59,7 @@ fn ask_regular(
     match valued {
         Valued::Value(value) => {
             let gradient = map.interp_one_grad(coeffs, x);
-            let outside = regular_outside(count, dims, starts, steps, x);
+            let outside = regular_outside(map, x);
             let parts = gradient.parts;
             Reply {
                 number: 0,
@@ -94,7 +95,7 @@ fn ask_rectilinear(
     match valued {
         Valued::Value(value) => {
             let gradient = map.interp_one_grad(grid, coeffs, x);
-            let outside = rectilinear_outside(count, dims, grid, x);
+            let outside = rectilinear_outside(map, grid, x);
             let parts = gradient.parts;
             Reply {
                 number: 0,

@@ -4,11 +4,11 @@ use mathlib.Core.Logic.{_⊎_, inl, inr}
 use mathlib.Core.Bool.{Bool, true, false, cond, _||_}
 use mathlib.Core.List.{List, [], _∷_, _++_, append-nil}
 use mathlib.Core.Option.{Option, none, some}
-use Prim.Native.Nat.{ℕ, zero, suc, _+_, _*_, _-_, _≤_, _<_}
-use native.Mathlib.Nat.{pos-of-ne-zero}
+use Prim.Native.Nat.{ℕ, zero, suc, _+_, _*_, _-_, _≤_, _<_, min}
+use native.Mathlib.Nat.{pos-of-ne-zero, min-le-right}
 use native.Mathlib.Omega.{arith}
-use lib.Dec.{eqb, ltb, lit<}
-use lib.ListN.{length, take, drop, getD}
+use lib.Dec.{eqb, ltb}
+use lib.ListN.{length, take, drop, getD, length-append, length-take}
 use lib.Seq.{sets, sets-eq, length-take-le, take-length}
 use lib.Ieee.{Float, binary64}
 use borrow.Author.Tests.{eq-eqb, ne-eqb, eqb-false, lt-ltb, le-ltb, ltb-true, ltb-false}
@@ -25,21 +25,16 @@ use Rattle.map_fields.specs.Fields.{lines, fields, before, rowIn, rest, given, 
 use Rattle.map_fields.specs.Head.{Head, headIn, lengthsIn, HeadRead}
 use Rattle.map_fields.proofs.Finding.{line-at}
 use Rattle.map_print.specs.Print.{Wrote, unreadableLine, mapLine}
+use Rattle.map_print.proofs.Printing.{Wrote-then, Wrote-as}
 use Rattle.map_spline.specs.Surface.{Surface, regularOf, rectilinearOf, regularNumber, rectilinearNumber, rowLength, mapNumber, surface, Lent, MadeFrom}
+use Rattle.map_spline.proofs.Making.{made-is}
 use Rattle.map_work.specs.Program.{queries, fitted, third, second, shapeNumber, shaped, first, program}
-use Rattle.map_work.specs.Steps.{Ready, Buffers, fourOf, fromShape}
+use Rattle.map_work.specs.Steps.{Ready, Kept, Worked, fourOf, fromShape}
 
 -- ---- line 2 and line 3
 
 pub ready-next : {n at next axes out : ℕ} → Ready n at axes out 4 → at ≤ next → next ≤ n + 1 → Ready n next axes out 4
 ready-next h a e = record { short = h .short; on = e; some-axis = h .some-axis; at-most-four = h .at-most-four; room = omega (arith, h .room) }
-
--- the number of a map has one digit
-pub number-digit : (regular a b : Bool) → cond regular (cond a 5 0) (cond b 0 5) < 10
-number-digit true true b = lit< tt
-number-digit true false b = lit< tt
-number-digit false a true = lit< tt
-number-digit false a false = lit< tt
 
 -- the axes of the map are those of line 1
 pub axes-of : (regular linear : Bool) (dims : List ℕ) (row samples : List Float) → cond regular (regularOf binary64 linear dims row samples) (rectilinearOf binary64 linear dims row samples) .spline .axes ≡ length dims
@@ -58,44 +53,43 @@ module _ (input : List ℕ) (at n : ℕ) (ok : Bool) (next : ℕ) (got : List Fl
     abbrev head : Head
     head = record { regular = regular; linear = linear; dims = dims }
 
-    pub row-unread : (out new : List ℕ) (r : ℕ) → n ≡ cond regular (2 * length dims) (total dims) → ok ≡ false → Wrote out 0 (unreadableLine 2) new r → take r new ≡ second head (lines (drop at input))
+    pub row-unread : (out new : List ℕ) (r : ℕ) → n ≡ cond regular (2 * length dims) (total dims) → ok ≡ false → Wrote out 0 (unreadableLine 2) new r → Wrote out 0 (second head (lines (drop at input))) new r
     unfolding second rowLength
-    row-unread out new r e k w = rw (← e, unread k) (w .text)
+    row-unread out new r e k w = rw (← e, unread k) w
 
     pub row-read : n ≡ cond regular (2 * length dims) (total dims) → ok ≡ true → third head got (lines (drop next input)) ≡ second head (lines (drop at input))
     unfolding second rowLength
     row-read e k = rw (← e, was-read k, h .after)
 
     module _ (row : List Float) (e : n ≡ size dims) where
-      pub samples-unread : (out new : List ℕ) (r : ℕ) → ok ≡ false → Wrote out 0 (unreadableLine 3) new r → take r new ≡ third head row (lines (drop at input))
+      pub samples-unread : (out new : List ℕ) (r : ℕ) → ok ≡ false → Wrote out 0 (unreadableLine 3) new r → Wrote out 0 (third head row (lines (drop at input))) new r
       unfolding third
-      samples-unread out new r k w = rw (← e, unread k) (w .text)
+      samples-unread out new r k w = rw (← e, unread k) w
 
-      module _ (number : ℕ) (s : Surface)
-          (f : MadeFrom (cond regular (regularNumber dims row) (rectilinearNumber dims row)) (cond regular (regularOf binary64 linear dims row got) (rectilinearOf binary64 linear dims row got)) number s)
+      module _ (number : ℕ) (s refused : Surface)
+          (f : MadeFrom (cond regular (regularNumber dims row) (rectilinearNumber dims row)) (cond regular (regularOf binary64 linear dims row got) (rectilinearOf binary64 linear dims row got)) refused number s)
           (k : ok ≡ true) (out mid : List ℕ) (o : ℕ) (w : Wrote out 0 (mapLine number) mid o) where
-        pub map-refused : (number ≡ 0 → ⊥) → take o mid ≡ third head row (lines (drop at input))
+        pub map-refused : (number ≡ 0 → ⊥) → Wrote out 0 (third head row (lines (drop at input))) mid o
         unfolding third fitted mapNumber
-        map-refused z = rw (← e, was-read k, ← f .answers, ne-eqb number 0 z, append-nil (mapLine number)) (w .text)
+        map-refused z = rw (← e, was-read k, ← f .answers, ne-eqb number 0 z, append-nil (mapLine number)) w
 
-        pub map-run : number ≡ 0 → (all : List ℕ) → all ≡ take o mid ++ queries s 0 0 (lines (drop next input)) → all ≡ third head row (lines (drop at input))
+        pub map-run : number ≡ 0 → (new : List ℕ) (r : ℕ) → Wrote mid o (queries s 0 0 (lines (drop next input))) new r → Wrote out 0 (third head row (lines (drop at input))) new r
         unfolding third fitted mapNumber surface
-        map-run z all t =
-            rw (← e, was-read k, ← f .answers, eq-eqb number 0 z, h .after, ← f .map z) (t ∙ ap (λ (b : List ℕ). b ++ queries s 0 0 (lines (drop next input))) (w .text))
+        map-run z new r t = rw (← e, was-read k, ← f .answers, eq-eqb number 0 z, h .after, ← made-is f z) (Wrote-then w t)
 
 -- ---- the shape
 
 module _ (count : ℕ) (lens : List ℕ) (n : ℕ) (e : n ≡ firstRefusal (shapeChecks count lens)) where
   -- the library's refusal of a shape is the program's
-  pub limit-refused : (n ≡ 0 → ⊥) → (n ≡ firstRefusal (limitChecks 512 count (take count lens))) × (n < 10)
+  pub limit-refused : (n ≡ 0 → ⊥) → n ≡ firstRefusal (limitChecks 512 count (take count lens))
   unfolding firstRefusal
   limit-refused u = go (eqb count 0 || ltb 4 count) (anyShort (take count lens)) (ltb mostPoints (size (take count lens))) (ltb 512 (size (take count lens))) refl refl e
     where
       go : (a b c d : Bool) → ltb mostPoints (size (take count lens)) ≡ c → ltb 512 (size (take count lens)) ≡ d → n ≡ cond a 1 (cond b 2 (cond c 3 0))
-          → (n ≡ cond a 1 (cond b 2 (cond d 3 0))) × (n < 10)
-      go true b c d x y q = (q, rw q (lit< tt))
-      go false true c d x y q = (q, rw q (lit< tt))
-      go false false true true x y q = (q, rw q (lit< tt))
+          → n ≡ cond a 1 (cond b 2 (cond d 3 0))
+      go true b c d x y q = q
+      go false true c d x y q = q
+      go false false true true x y q = q
       go false false true false x y q = absurd (let z : ⊥ = omega (arith, ltb-true mostPoints (size (take count lens)) x, ltb-false 512 (size (take count lens)) y) in z)
       go false false false d x y q = absurd (u q)
 
@@ -115,11 +109,11 @@ module _ (count : ℕ) (lens : List ℕ) (n : ℕ) (e : n ≡ firstRefusal (shap
         go false true c q = absurd (let y : ⊥ = omega (arith, q) in y)
         go false false c q = rw d
 
-    pub limit-over : 512 < cells → (_≡_ {A = ℕ} 3 (firstRefusal (limitChecks 512 count (take count lens)))) × (_<_ 3 10)
-    limit-over l = (sym (passed true (lt-ltb 512 (size (take count lens)) (rw (← many) l))), lit< tt)
+    pub limit-over : 512 < cells → _≡_ {A = ℕ} 3 (firstRefusal (limitChecks 512 count (take count lens)))
+    limit-over l = sym (passed true (lt-ltb 512 (size (take count lens)) (rw (← many) l)))
 
-    pub limit-passed : cells ≤ 512 → (_≡_ {A = ℕ} 0 (firstRefusal (limitChecks 512 count (take count lens)))) × (_<_ 0 10)
-    limit-passed l = (sym (passed false (le-ltb 512 (size (take count lens)) (rw (← many) l))), lit< tt)
+    pub limit-passed : cells ≤ 512 → _≡_ {A = ℕ} 0 (firstRefusal (limitChecks 512 count (take count lens)))
+    limit-passed l = sym (passed false (le-ltb 512 (size (take count lens)) (rw (← many) l)))
 
 -- a shape that is not refused
 pub limit-usable : (count : ℕ) (lens : List ℕ) → length lens ≡ 4 → firstRefusal (limitChecks 512 count (take count lens)) ≡ 0 → Usable count lens × (size (take count lens) ≤ 512)
@@ -176,33 +170,60 @@ shape-is regular linear count four ds ls e f = go (ltb 4 count) refl
         rw (← e, q, no)
     go false q = rw (f (ltb-false 4 count q), ← e)
 
-pub too-long : (more : Bool) (input out new : List ℕ) (r : ℕ) → more ≡ true → Wrote out 0 (unreadableLine 0) new r → take r new ≡ program more input
-unfolding program
-too-long more input out new r l w = rw l (w .text)
+no-line : (input out new : List ℕ) (r : ℕ) → length input ≡ 0 → Wrote out 0 (unreadableLine 1) new r → Wrote out 0 (first (lines input)) new r
+unfolding first lines
+no-line [] out new r z w = w
+no-line (b ∷ bs) out new r z w = absurd (let z : ⊥ = omega arith in z)
 
-module _ (more : Bool) (l : more ≡ false) where
-  pub no-line : (input out new : List ℕ) (r : ℕ) → length input ≡ 0 → Wrote out 0 (unreadableLine 1) new r → take r new ≡ program more input
-  unfolding program first lines
-  no-line [] out new r z w = rw l (w .text)
-  no-line (b ∷ bs) out new r z w = absurd (let z : ⊥ = omega arith in z)
+-- ---- the whole
 
-  module _ (input : List ℕ) (n : length input ≡ 0 → ⊥) (e : ℕ) (g : e ≡ 0 + length (before 10 (drop 0 input)))
-      (old : List ℕ) (readable regular linear : Bool) (count : ℕ) (new : List ℕ) (h : HeadRead (fields (take e input)) old readable regular linear count new) where
-    lines-are : lines input ≡ take e input ∷ lines (drop (e + 1) input)
-    lines-are = line-at input 0 e (pos-of-ne-zero n) g ∙ ap (λ (k : ℕ). take k input ∷ lines (drop (e + 1) input)) (let q : e - 0 ≡ e = omega arith in q)
+module _ (input spare : List ℕ) (k : Kept (length input) (length spare)) where
+  pub too-long : (out new : List ℕ) (r : ℕ) → 0 < length spare → Wrote out 0 (unreadableLine 0) new r → Worked (input ++ spare) r new
+  unfolding program
+  too-long out new r l w =
+      let many : 32768 < length (input ++ spare) = rw length-append (omega (arith, k .full l)) in
+      record { count = rw (lt-ltb 32768 (length (input ++ spare)) many) (omega (arith, w .place)); text = rw (lt-ltb 32768 (length (input ++ spare)) many) (w .text) }
 
-    pub bad-head : (out last : List ℕ) (r : ℕ) → readable ≡ false → Wrote out 0 (unreadableLine 1) last r → take r last ≡ program more input
-    unfolding program first
-    bad-head out last r b w = rw (l, lines-are, h .head, b) (w .text)
+  module _ (none : length spare ≤ 0) where
+    whole : input ++ spare ≡ input
+    whole = go spare none
+      where
+        go : (t : List ℕ) → length t ≤ 0 → input ++ t ≡ input
+        go [] l = append-nil input
+        go (b ∷ bs) l = absurd (let z : ⊥ = omega arith in z)
 
-    pub good-head : (all : List ℕ) → readable ≡ true → length old ≡ 5
-        → all ≡ fromShape (record { regular = regular; linear = linear; dims = take count (fourOf new) }) count (lines (drop (e + 1) input)) → all ≡ program more input
-    unfolding program first
-    good-head all b five t =
-        let ls = lengthsIn (fields (take e input)) in
-        let c = h .axes b in
-        let kept : count ≤ 4 → take count (fourOf new) ≡ ls = λ few. ap (λ (k : ℕ). take k (fourOf new)) c ∙ four-kept count old ls new five (omega (arith, c)) (h .kept b) in
-        rw (l, lines-are, h .head, b) (t ∙ shape-is regular linear count (fourOf new) ls (lines (drop (e + 1) input)) c kept)
+    worked : (out new : List ℕ) (r : ℕ) → Wrote out 0 (first (lines input)) new r → Worked (input ++ spare) r new
+    unfolding program
+    worked out new r w =
+        let few = le-ltb 32768 (length input) (k .most) in
+        record { count = rw (whole, few) (omega (arith, w .place)); text = rw (whole, few) (w .text) }
+
+    pub empty-input : (out new : List ℕ) (r : ℕ) → length input ≡ 0 → Wrote out 0 (unreadableLine 1) new r → Worked (input ++ spare) r new
+    empty-input out new r z w = worked out new r (no-line input out new r z w)
+
+    module _ (n : length input ≡ 0 → ⊥) (e : ℕ) (g : e ≡ 0 + length (before 10 (drop 0 input)))
+        (old : List ℕ) (readable regular linear : Bool) (count : ℕ) (kept : List ℕ) (h : HeadRead (fields (take e input)) old readable regular linear count kept) (out new : List ℕ) (r : ℕ) where
+      lines-are : lines input ≡ take e input ∷ lines (drop (e + 1) input)
+      lines-are = line-at input 0 e (pos-of-ne-zero n) g ∙ ap (λ (k : ℕ). take k input ∷ lines (drop (e + 1) input)) (let q : e - 0 ≡ e = omega arith in q)
+
+      pub bad-head : readable ≡ false → Wrote out 0 (unreadableLine 1) new r → Worked (input ++ spare) r new
+      unfolding first
+      bad-head b w = worked out new r (rw (lines-are, h .head, b) w)
+
+      pub good-head : readable ≡ true → length old ≡ 5
+          → Wrote out 0 (fromShape (record { regular = regular; linear = linear; dims = take count (fourOf kept) }) count (lines (drop (e + 1) input))) new r → Worked (input ++ spare) r new
+      unfolding first
+      good-head b five w =
+          let ls = lengthsIn (fields (take e input)) in
+          let c = h .axes b in
+          let same : count ≤ 4 → take count (fourOf kept) ≡ ls = λ few. ap (λ (k : ℕ). take k (fourOf kept)) c ∙ four-kept count old ls kept five (omega (arith, c)) (h .kept b) in
+          worked out new r (rw (lines-are, h .head, b) (Wrote-as (shape-is regular linear count (fourOf kept) ls (lines (drop (e + 1) input)) c same) w))
+
+-- what is to be printed fits
+pub worked-fits : {input : List ℕ} {r : ℕ} {out : List ℕ} → Worked input r out → r ≤ length out
+worked-fits {input} {r} {out} h =
+    let n : r ≡ min r (length out) = h .count ∙ sym (ap length (h .text)) ∙ length-take r out in
+    omega (arith, n, min-le-right r (length out))
 
 -- ---- lengths that are kept from call to call
 
@@ -235,8 +256,8 @@ ready-run number h a e s w = record {
 -- ---- the shape, as the code finds it
 
 module _ (h : Head) (count : ℕ) (ls : List (List ℕ)) (n : ℕ) (e : n ≡ firstRefusal (limitChecks 512 count (h .dims))) where
-  pub shape-read : (all : List ℕ) → n ≡ 0 → all ≡ second h ls → all ≡ fromShape h count ls
-  shape-read all z t = rw (← e, eq-eqb n 0 z) t
+  pub shape-read : (out new : List ℕ) (r : ℕ) → n ≡ 0 → Wrote out 0 (second h ls) new r → Wrote out 0 (fromShape h count ls) new r
+  shape-read out new r z w = rw (← e, eq-eqb n 0 z) w
 
-  pub shape-refused : (out new : List ℕ) (r : ℕ) → (n ≡ 0 → ⊥) → Wrote out 0 (mapLine n) new r → take r new ≡ fromShape h count ls
-  shape-refused out new r z w = rw (← e, ne-eqb n 0 z) (w .text)
+  pub shape-refused : (out new : List ℕ) (r : ℕ) → (n ≡ 0 → ⊥) → Wrote out 0 (mapLine n) new r → Wrote out 0 (fromShape h count ls) new r
+  shape-refused out new r z w = rw (← e, ne-eqb n 0 z) w

@@ -16,6 +16,7 @@ use Rattle.map_fields.proofs.Finding.{lines-step}
 use Rattle.map_print.specs.Print.{Wrote, floatsText, unreadableLine, answerLine, totalLine}
 use Rattle.map_print.proofs.Printing.{length-floatText, length-floatsText}
 use Rattle.map_spline.specs.Surface.{Surface, Replied, askedValue, askedGradient, askedOutside}
+use Rattle.map_spline.proofs.Asking.{replied-value, replied-gradient}
 use Rattle.map_work.specs.Program.{oneIf, answer, queries}
 use Rattle.map_work.specs.Steps.{Ready, Answered, Turned, Ended}
 
@@ -46,8 +47,8 @@ answered s x out o number value outside parts place new e room a w = record {
     same : (t : Bool) → eqb number 0 ≡ t → answerLine number value (take (length x) parts) ≡ answerLine number (askedValue s x) (askedGradient s x)
     same true q =
         let z = eqb-true number 0 q in
-        let g : take (length x) parts ≡ askedGradient s x = ap (λ (k : ℕ). take k parts) e ∙ a .the-gradient z in
-        ap₂ (λ (v : Float) (g : List Float). answerLine number v g) (a .the-value z) g
+        let g : take (length x) parts ≡ askedGradient s x = ap (λ (k : ℕ). take k parts) e ∙ replied-gradient a z in
+        ap₂ (λ (v : Float) (g : List Float). answerLine number v g) (replied-value a z) g
     same false q = number-alone number value (askedValue s x) (take (length x) parts) (askedGradient s x) (eqb-false number 0 q)
 
 module _ (input : List ℕ) (at : ℕ) (s : Surface) (n : ℕ) (out : List ℕ) (o : ℕ) (ok : Bool) (next : ℕ) (x : List Float) (h : RowRead input at n ok next x) where
@@ -137,9 +138,21 @@ pub turned-at : {input : List ℕ} {at : ℕ} {s : Surface} {n m : ℕ} {out : L
 turned-at {input} {at} {s} {out = out} {o} {ok} {outside} {next} {place} {x} {new} e t = subst (λ (k : ℕ). Turned input at s k out o ok outside next place x new) e t
 
 -- ---- after the loop
-module _ (input : List ℕ) (at : ℕ) (s : Surface) (out : List ℕ) (o : ℕ) (ok : Bool) (asked outside place : ℕ) (new : List ℕ) (h : Ended input at s out o ok asked outside place new) (last : List ℕ) (r : ℕ) where
-  pub ended-ok : ok ≡ true → Wrote new place (totalLine asked outside) last r → take r last ≡ take o out ++ queries s 0 0 (lines (drop at input))
-  ended-ok k w = w .text ∙ subst (λ (b : Bool). take place new ++ cond b (totalLine asked outside) (unreadableLine (asked + 4)) ≡ take o out ++ queries s 0 0 (lines (drop at input))) k (h .text)
+module _ (input : List ℕ) (at : ℕ) (s : Surface) (out : List ℕ) (o : ℕ) (ok : Bool) (asked outside place : ℕ) (new : List ℕ) (h : Ended input at s out o ok asked outside place new) (fits : o ≤ length out)
+    (last : List ℕ) (r : ℕ) where
+  -- with the last line, the text that was asked for
+  ended : (line : List ℕ) → line ≡ cond ok (totalLine asked outside) (unreadableLine (asked + 4)) → Wrote new place line last r → Wrote out o (queries s 0 0 (lines (drop at input))) last r
+  ended line e w =
+      let all = queries s 0 0 (lines (drop at input)) in
+      let t : take place new ++ line ≡ take o out ++ all = ap (λ (l : List ℕ). take place new ++ l) e ∙ h .text in
+      let n : length (take place new) + length line ≡ length (take o out) + length all = sym (length-append (take place new) line) ∙ ap length t ∙ length-append (take o out) all in
+      record {
+        place = omega (arith, n, w .place, length-take-le place new (omega (arith, h .room)), length-take-le o out fits);
+        text = w .text ∙ t;
+      }
 
-  pub ended-bad : ok ≡ false → Wrote new place (unreadableLine (asked + 4)) last r → take r last ≡ take o out ++ queries s 0 0 (lines (drop at input))
-  ended-bad k w = w .text ∙ subst (λ (b : Bool). take place new ++ cond b (totalLine asked outside) (unreadableLine (asked + 4)) ≡ take o out ++ queries s 0 0 (lines (drop at input))) k (h .text)
+  pub ended-ok : ok ≡ true → Wrote new place (totalLine asked outside) last r → Wrote out o (queries s 0 0 (lines (drop at input))) last r
+  ended-ok k w = ended (totalLine asked outside) (rw k) w
+
+  pub ended-bad : ok ≡ false → Wrote new place (unreadableLine (asked + 4)) last r → Wrote out o (queries s 0 0 (lines (drop at input))) last r
+  ended-bad k w = ended (unreadableLine (asked + 4)) (rw k) w

@@ -3,7 +3,7 @@ use mathlib.Core.Bool.{Bool, true, false, cond}
 use mathlib.Core.List.{List, [], _∷_, _++_}
 use mathlib.Core.Option.{Option, none, some}
 use Prim.Native.Nat.{ℕ, _+_}
-use lib.Dec.{eqb}
+use lib.Dec.{eqb, ltb}
 use lib.ListN.{length}
 use lib.Ieee.{Float, binary64}
 use Rattle.shape.specs.Shape.{size}
@@ -61,6 +61,6 @@ unfoldable pub first : List (List ℕ) → List ℕ
 first [] = unreadableLine 1
 first (l ∷ ls) = whenRead (headIn (fields l)) (unreadableLine 1) (λ h. shaped h ls)
 
--- the program; `more`: there was more input than the 32,768 bytes that are kept
-unfoldable pub program : Bool → List ℕ → List ℕ
-program more input = cond more (unreadableLine 0) (first (lines input))
+-- the program, of all that it reads: more than 32,768 bytes are too long
+unfoldable pub program : List ℕ → List ℕ
+program input = cond (ltb 32768 (length input)) (unreadableLine 0) (first (lines input))

@@ -3,7 +3,7 @@ use mathlib.Core.Path.{_≡_}
 use mathlib.Core.Bool.{Bool, true, cond}
 use mathlib.Core.List.{List, [], _∷_, _++_}
 use lib.Dec.{eqb}
-use Prim.Native.Nat.{ℕ, _+_, _*_, _-_, _≤_}
+use Prim.Native.Nat.{ℕ, _+_, _*_, _-_, _≤_, _<_}
 use lib.ListN.{length, take, drop, getD}
 use lib.Ieee.{Float}
 use Rattle.shape.specs.Checks.{firstRefusal, limitChecks}
@@ -11,7 +11,7 @@ use Rattle.map_fields.specs.Fields.{lines, RowRead}
 use Rattle.map_print.specs.Print.{Wrote, unreadableLine, mapLine, totalLine}
 use Rattle.map_spline.specs.Surface.{Surface, askedOutside}
 use Rattle.map_fields.specs.Head.{Head}
-use Rattle.map_work.specs.Program.{answer, queries, second}
+use Rattle.map_work.specs.Program.{answer, queries, second, program}
 
 -- of n bytes read up to `at`, with o bytes printed, the rest can be printed: a readable query line of k floats has at least
 -- 17 k bytes, and its answer at most 21 + 17 k, so three bytes out for one in are enough, and 128 for the turn in hand
@@ -41,6 +41,17 @@ pub record Ended (input : List ℕ) (at : ℕ) (s : Surface) (out : List ℕ) (o
   pub room : place + 14 ≤ length new
   pub few : asked ≤ 40000
   pub part : outside ≤ 40000
+
+-- what was read: the bytes kept, and those of a further read, which is made once 32,768 bytes are kept
+pub record Kept (input spare : ℕ) : Type 0 where
+  pub most : input ≤ 32768
+  pub full : 0 < spare → input ≡ 32768
+
+-- the work on an input: r bytes at the front of `out` are to be printed. Free: `out` from r on, and all that the other buffers
+-- hold; no buffer's length changes, and what a buffer held before shows nowhere
+pub record Worked (input : List ℕ) (r : ℕ) (out : List ℕ) : Type 0 where
+  pub count : r ≡ length (program input)
+  pub text : take r out ≡ program input
 
 -- the buffers of the program
 pub record Buffers (numbers row samples coefs scratch x out : ℕ) : Type 0 where

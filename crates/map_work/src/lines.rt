@@ -1,6 +1,7 @@
 // The first three lines, and the whole.
 ghost use mathlib.Core.Path.{_≡_};
 ghost use mathlib.Core.Bool.{cond};
+ghost use mathlib.Core.List.{_++_};
 ghost use Prim.Native.Nat.{_<_, _≤_, _+_, _*_};
 ghost use lib.ListN.{length, take, drop};
 ghost use Rattle.shape.specs.Shape.{size};
@@ -8,9 +9,10 @@ ghost use Rattle.shape.specs.Checks.{firstRefusal, limitChecks};
 ghost use Rattle.shape.specs.Usable.{Usable};
 ghost use Rattle.knots.specs.Joined.{total};
 ghost use Rattle.map_fields.specs.Fields.{lines};
+ghost use Rattle.map_print.specs.Print.{Wrote};
 ghost use Rattle.map_spline.specs.Surface.{Lent};
-ghost use Rattle.map_work.specs.Program.{third, second, program};
-ghost use Rattle.map_work.specs.Steps.{Ready, Buffers, fourOf, fromShape};
+ghost use Rattle.map_work.specs.Program.{third, second};
+ghost use Rattle.map_work.specs.Steps.{Ready, Buffers, Kept, Worked, fourOf, fromShape};
 use crate::queries::run;
 use shape::Shape;
 
@@ -31,7 +33,7 @@ fn from_samples(
 ) -> usize
     requires { ⌜ Lent count dims (cond regular (2 * count) (total (take count dims))) (length (now row)) (length (now samples)) (length (now coeffs)) (length (now scratch)) ⌝ }
     requires { ⌜ Ready (length (now input)) at (length (now x)) (length (now out)) 4 × (length (now x) ≡ count) ⌝ }
-    ensures { λ r. ⌜ take r (now (out .exit)) ≡ third (record { regular = regular; linear = linear; dims = take count dims }) (now (row .entry)) (lines (drop at (now (input .entry)))) ⌝ }
+    ensures { λ r. ⌜ Wrote (now (out .entry)) 0 (third (record { regular = regular; linear = linear; dims = take count dims }) (now (row .entry)) (lines (drop at (now (input .entry))))) (now (out .exit)) r ⌝ }
 {
     let read = map_fields::read_row(input, at, samples);
     if read.ok {
@@ -63,7 +65,7 @@ fn from_row(
 ) -> usize
     requires { ⌜ Lent count dims (cond regular (2 * count) (total (take count dims))) (length (now row)) (length (now samples)) (length (now coeffs)) (length (now scratch)) ⌝ }
     requires { ⌜ Ready (length (now input)) at (length (now x)) (length (now out)) 4 × (length (now x) ≡ count) ⌝ }
-    ensures { λ r. ⌜ take r (now (out .exit)) ≡ second (record { regular = regular; linear = linear; dims = take count dims }) (lines (drop at (now (input .entry)))) ⌝ }
+    ensures { λ r. ⌜ Wrote (now (out .entry)) 0 (second (record { regular = regular; linear = linear; dims = take count dims }) (lines (drop at (now (input .entry))))) (now (out .exit)) r ⌝ }
 {
     let read = map_fields::read_row(input, at, row);
     if read.ok {
@@ -122,7 +124,7 @@ fn sized(
     requires { ⌜ Usable count dims × (size (take count dims) ≤ 512) ⌝ }
     requires { ⌜ Buffers 5 (length (now row)) (length (now samples)) (length (now coeffs)) (length (now scratch)) (length (now x)) (length (now out)) ⌝ }
     requires { ⌜ (length (now input) ≤ 32768) × (1 ≤ at) × (at ≤ length (now input) + 1) ⌝ }
-    ensures { λ r. ⌜ take r (now (out .exit)) ≡ second (record { regular = regular; linear = linear; dims = take count dims }) (lines (drop at (now (input .entry)))) ⌝ }
+    ensures { λ r. ⌜ Wrote (now (out .entry)) 0 (second (record { regular = regular; linear = linear; dims = take count dims }) (lines (drop at (now (input .entry))))) (now (out .exit)) r ⌝ }
 {
     let floats = row_len(regular, count, dims);
     let cells = points(count, dims);
@@ -144,7 +146,7 @@ fn sized(
 
 // The refusal of the shape, or 0.
 fn shape_number(count: usize, dims: [usize; 4]) -> u64
-    ensures { λ r. ⌜ (r ≡ firstRefusal (limitChecks 512 count (take count dims))) × (r < 10) ⌝ }
+    ensures { λ r. ⌜ r ≡ firstRefusal (limitChecks 512 count (take count dims)) ⌝ }
 {
     let shape = Shape { count, dims };
     let answer = shape.check();
@@ -175,7 +177,7 @@ fn from_shape(
 ) -> usize
     requires { ⌜ Buffers 5 (length (now row)) (length (now samples)) (length (now coeffs)) (length (now scratch)) (length (now x)) (length (now out)) ⌝ }
     requires { ⌜ (length (now input) ≤ 32768) × (1 ≤ at) × (at ≤ length (now input) + 1) ⌝ }
-    ensures { λ r. ⌜ take r (now (out .exit)) ≡ fromShape (record { regular = regular; linear = linear; dims = take count dims }) count (lines (drop at (now (input .entry)))) ⌝ }
+    ensures { λ r. ⌜ Wrote (now (out .entry)) 0 (fromShape (record { regular = regular; linear = linear; dims = take count dims }) count (lines (drop at (now (input .entry))))) (now (out .exit)) r ⌝ }
 {
     let number = shape_number(count, dims);
     if number == 0 {
@@ -204,10 +206,11 @@ fn four_of(numbers: &[usize]) -> [usize; 4]
     [numbers[1], numbers[2], numbers[3], numbers[4]]
 }
 
-// The work on what was read, in the program's buffers: what is printed stands at the front of `out`.
+// The work on what was read, in the program's buffers: what is printed stands at the front of `out`. `spare` is what a further
+// read got; where it got anything, the input is too long.
 pub fn work_on(
     input: &[u8],
-    more: bool,
+    spare: &[u8],
     numbers: &mut [usize],
     row: &mut [f64],
     samples: &mut [f64],
@@ -217,10 +220,10 @@ pub fn work_on(
     out: &mut [u8],
 ) -> usize
     requires { ⌜ Buffers (length (now numbers)) (length (now row)) (length (now samples)) (length (now coeffs)) (length (now scratch)) (length (now x)) (length (now out)) ⌝ }
-    requires { ⌜ length (now input) ≤ 32768 ⌝ }
-    ensures { λ r. ⌜ take r (now (out .exit)) ≡ program more (now (input .entry)) ⌝ }
+    requires { ⌜ Kept (length (now input)) (length (now spare)) ⌝ }
+    ensures { λ r. ⌜ Worked (now (input .entry) ++ now (spare .entry)) r (now (out .exit)) ⌝ }
 {
-    if more {
+    if spare.len() > 0 {
         return map_print::put_unreadable(out, 0, 0);
     }
     if input.len() == 0 {

@@ -1,9 +1,9 @@
 // The queries of the map program.
 ghost use mathlib.Core.Path.{_≡_};
-ghost use mathlib.Core.List.{_++_};
 ghost use Prim.Native.Nat.{_<_, _≤_, _+_, _*_};
-ghost use lib.ListN.{length, take, drop};
+ghost use lib.ListN.{length, drop};
 ghost use Rattle.map_fields.specs.Fields.{lines};
+ghost use Rattle.map_print.specs.Print.{Wrote};
 ghost use Rattle.map_spline.specs.Surface.{surfaceOf};
 ghost use Rattle.map_work.specs.Program.{oneIf, queries};
 ghost use Rattle.map_work.specs.Steps.{Ready, Answered, Turned, Ended};
@@ -140,7 +140,7 @@ pub fn run(
     o: usize,
 ) -> usize
     requires { ⌜ Ready (length (now input)) at (length (now x)) (length (now out)) o × (length (now x) ≡ surfaceOf map (now grid) (now coeffs) .spline .axes) ⌝ }
-    ensures { λ r. ⌜ take r (now (out .exit)) ≡ take o (now (out .entry)) ++ queries (surfaceOf map (now (grid .entry)) (now (coeffs .entry))) 0 0 (lines (drop at (now (input .entry)))) ⌝ }
+    ensures { λ r. ⌜ Wrote (now (out .entry)) o (queries (surfaceOf map (now (grid .entry)) (now (coeffs .entry))) 0 0 (lines (drop at (now (input .entry))))) (now (out .exit)) r ⌝ }
 {
     let e = ask_all(input, at, map, grid, coeffs, x, out, o);
     if e.ok {

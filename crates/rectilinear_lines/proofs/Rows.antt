@@ -6,7 +6,7 @@ use native.Mathlib.Omega.{arith}
 use borrow.Author.Tests.{eq-eqb, ne-eqb}
 use lib.ListN.{length}
 use lib.Ieee.{Float, Format}
-use Rattle.shape.proofs.Fit.{Looks}
+use Rattle.shape.specs.Fit.{Looks}
 use Rattle.multibspline.specs.Thomas.{Row, at}
 use Rattle.multibspline.proofs.Sweeps.{upper-ext, solution-ext}
 use Rattle.rectilinear_lines.specs.Rows.{atKnot, lowRow, highRow, divided, firstRow, innerRow, lastRow, row, upperNumber, coefficient}

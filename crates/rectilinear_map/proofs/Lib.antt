@@ -1,3 +1,4 @@
 pub mod Checks
+pub mod Placing
 pub mod Total
 pub mod InUse

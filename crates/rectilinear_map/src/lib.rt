@@ -1,10 +1,13 @@
 // Cubic B-spline maps on a rectilinear grid, double precision: the record, building, values, gradients and batches. After
 // interpn's multibspline::rectilinear.
+mod answers;
 mod batch;
 mod build;
 mod eval;
+mod place;
 mod record;
 
+pub use answers::Placed;
 pub use build::blank;
 pub use build::check_map;
 pub use build::no_ghosts;

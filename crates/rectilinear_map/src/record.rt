@@ -5,16 +5,20 @@ ghost use lib.ListN.{length};
 ghost use lib.Ieee.{binary64};
 ghost use Rattle.shape.specs.Checks.{firstRefusal};
 ghost use Rattle.shape.specs.Refusal.{answerNumber};
+ghost use Rattle.shape.specs.Sizes.{strideOf};
 ghost use Rattle.rectilinear.specs.Fit.{rectilinearFitChecks, RectilinearFitted};
 ghost use Rattle.evaluation.specs.Records.{valuedNumber, valuedValue};
 ghost use Rattle.evaluation.specs.Spline.{OneValue, OneGradient};
 ghost use Rattle.evaluation.specs.Batch.{ValueBatch, GradientBatch};
 ghost use Rattle.rectilinear_map.specs.Map.{RectilinearBuilt};
 ghost use Rattle.rectilinear_map.specs.Records.{mapOf};
+ghost use Rattle.rectilinear_map.specs.Place.{RectilinearPlaced};
 ghost use Rattle.rectilinear_blocks.specs.Eval.{gridAnswer, mapAnswer, rectilinear};
+use crate::answers::Placed;
 use crate::batch;
 use crate::build;
 use crate::eval;
+use crate::place;
 use evaluation::Gradient;
 use evaluation::Valued;
 use rectilinear_weights::Ghost;
@@ -41,6 +45,38 @@ pub struct Built {
 
 // The joined grid is one slice: the knots of axis 0, then those of axis 1, and so on.
 impl MultiBsplineRectilinear {
+    // Whether the map is accepted with this grid and these coefficients, or the first of these refusals: 1, 2, 3 for the
+    // record's shape; 2, the length of the joined grid; 2, the length of the coefficients; 5, a knot not above the one before
+    // it.
+    pub fn check(self, grid: &[f64], coeffs: &[f64]) -> Answer
+        ensures { λ r. ⌜ answerNumber r ≡ mapAnswer (self .count) (self .dims) (now (grid .entry)) (length (now (coeffs .entry))) ⌝ }
+    {
+        let dims = self.dims;
+        build::check_map(self.count, dims, grid, coeffs.len())
+    }
+
+    // How far apart two neighbours on an axis are among the coefficients: 1 on the last axis. 0 where the shape is refused
+    // and for an axis that the map has not.
+    pub fn stride(self, axis: usize) -> usize
+        ensures { λ r. ⌜ r ≡ strideOf (self .count) (self .dims) axis ⌝ }
+    {
+        let dims = self.dims;
+        let shape = Shape {
+            count: self.count,
+            dims: dims,
+        };
+        shape.stride(axis)
+    }
+
+    // The place of a coordinate on an axis, or the first of these refusals: 1, 2, 3 for the record's shape; 2, the length of
+    // the joined grid; 5, a knot not above the one before it; 7, no such axis. No coordinate is refused.
+    pub fn place(self, grid: &[f64], axis: usize, x: f64) -> Placed
+        ensures { λ r. ⌜ RectilinearPlaced (self .count) (self .dims) (now (grid .entry)) axis x r ⌝ }
+    {
+        let dims = self.dims;
+        place::place(self.count, dims, grid, axis, x)
+    }
+
     // The value at a query of one coordinate an axis, or the first of these refusals: 1, 2, 3 for the record's shape; 2, the
     // length of the joined grid; 2, the length of the coefficients; 5, a knot not above the one before it; 2, the number of
     // coordinates. No coordinate is refused; at a NaN the arithmetic gives what it gives.

@@ -6,7 +6,7 @@ use native.Mathlib.Omega.{arith}
 use borrow.Author.Tests.{eq-eqb, ne-eqb}
 use lib.Ieee as Ieee
 use lib.Ieee.{Float, Format}
-use Rattle.shape.proofs.Fit.{Looks}
+use Rattle.shape.specs.Fit.{Looks}
 use Rattle.multibspline.specs.Numbers.{f0, f1, f-1, f4, f6}
 use Rattle.multibspline.specs.Thomas.{Row}
 use Rattle.multibspline.proofs.Sweeps.{upper-ext, solution-ext}

@@ -1,4 +1,5 @@
 pub mod Steps
+pub mod Placing
 pub mod Builds
 pub mod Total
 pub mod InUse

@@ -1,10 +1,13 @@
 // Regular maps: the record, building, values, gradients and batches, double precision. After interpn's
 // multibspline::regular.
+mod answers;
 mod batch;
 mod build;
 mod eval;
+mod place;
 mod record;
 
+pub use answers::Placed;
 pub use build::blank;
 pub use build::check_map;
 pub use evaluation::Gradient;

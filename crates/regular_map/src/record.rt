@@ -1,17 +1,22 @@
 // The record of a regular map. It travels by value; its coefficients are lent beside it, and each call looks at it anew.
+ghost use mathlib.Core.Path.{_≡_};
 ghost use lib.ListN.{length};
 ghost use lib.Ieee.{binary64};
 ghost use Rattle.shape.specs.Refusal.{answerNumber};
+ghost use Rattle.shape.specs.Sizes.{strideOf};
 ghost use Rattle.regular.specs.Fit.{RegularFitLeaves};
 ghost use Rattle.evaluation.specs.Records.{valuedNumber, valuedValue};
 ghost use Rattle.evaluation.specs.Spline.{OneValue, OneGradient};
 ghost use Rattle.evaluation.specs.Batch.{ValueBatch, GradientBatch};
 ghost use Rattle.regular_map.specs.Map.{RegularBuilt};
 ghost use Rattle.regular_map.specs.Records.{mapOf};
+ghost use Rattle.regular_map.specs.Place.{RegularPlaced};
 ghost use Rattle.regular_blocks.specs.Checks.{mapAnswer, fromValuesAnswer, regular};
+use crate::answers::Placed;
 use crate::batch;
 use crate::build;
 use crate::eval;
+use crate::place;
 use evaluation::Gradient;
 use evaluation::Valued;
 use shape::Answer;
@@ -36,6 +41,40 @@ pub struct Built {
 }
 
 impl MultiBsplineRegular {
+    // Whether the map is accepted with these coefficients, or the first of these refusals: 1, 2, 3 for the record's shape; 2,
+    // the length of the coefficients; 5, a step not above zero.
+    pub fn check(self, coeffs: &[f64]) -> Answer
+        ensures { λ r. ⌜ answerNumber r ≡ mapAnswer (self .count) (self .dims) (self .steps) (length (now (coeffs .entry))) ⌝ }
+    {
+        let dims = self.dims;
+        let steps = self.steps;
+        build::check_map(self.count, dims, steps, coeffs.len())
+    }
+
+    // How far apart two neighbours on an axis are among the coefficients: 1 on the last axis. 0 where the shape is refused
+    // and for an axis that the map has not.
+    pub fn stride(self, axis: usize) -> usize
+        ensures { λ r. ⌜ r ≡ strideOf (self .count) (self .dims) axis ⌝ }
+    {
+        let dims = self.dims;
+        let shape = Shape {
+            count: self.count,
+            dims: dims,
+        };
+        shape.stride(axis)
+    }
+
+    // The place of a coordinate on an axis, or the first of these refusals: 1, 2, 3 for the record's shape; 5, a step not
+    // above zero; 7, no such axis; 6, a cell that cannot be represented.
+    pub fn place(self, axis: usize, x: f64) -> Placed
+        ensures { λ r. ⌜ RegularPlaced binary64 (self .count) (self .dims) (self .starts) (self .steps) axis x r ⌝ }
+    {
+        let dims = self.dims;
+        let starts = self.starts;
+        let steps = self.steps;
+        place::place(self.count, dims, starts, steps, axis, x)
+    }
+
     // The value at a query of one coordinate an axis, or the first of these refusals: 1, 2, 3 for the record's shape; 2, the
     // length of the coefficients; 5, a step not above zero; 2, the number of coordinates; 6, a coordinate whose cell cannot
     // be represented.

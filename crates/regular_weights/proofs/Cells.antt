@@ -10,29 +10,29 @@ use lib.IntN.{ℤ, pos, negsuc, predℤ, natAbs}
 use lib.Ieee.{Float, nan, inf, fin, Format, up, down, sub, div}
 use Rattle.multibspline.specs.declared.saturation.Saturation.{Saturation}
 use Rattle.multibspline.specs.declared.saturation.Saturation.the-variants.{None, InsideLow, InsideHigh, OutsideHigh}
-use Rattle.regular_weights.specs.Place.{floorOf, locAt, locOf, getLoc}
+use Rattle.regular_weights.specs.Place.{floorOf, locOfCell, locOf, getLoc}
 use Rattle.regular_weights.specs.declared.place.Loc.{Loc}
 use Rattle.regular_weights.specs.declared.place.Loc.the-variants.{At, Unrepresentable}
 
 -- ---- by the floor u of the quotient, where it is not negative
 
-pub first-span : (n u : ℕ) → u ≡ 0 → locAt n (predℤ (pos u)) ≡ At InsideLow 0
+pub first-span : (n u : ℕ) → u ≡ 0 → locOfCell n (predℤ (pos u)) ≡ At InsideLow 0
 first-span n u h = rw h
 
-pub inner-span : (n u : ℕ) → 4 ≤ n → (u ≡ 0 → ⊥) → u < n - 2 → locAt n (predℤ (pos u)) ≡ At None (u - 1)
+pub inner-span : (n u : ℕ) → 4 ≤ n → (u ≡ 0 → ⊥) → u < n - 2 → locOfCell n (predℤ (pos u)) ≡ At None (u - 1)
 inner-span n zero hn some h = absurd (some refl)
 inner-span n (suc u) hn some h =
     let e : suc u - 1 ≡ u = omega arith in
     let g : min u (n - 4) ≡ u = omega arith in
     rw (lt-ltb u (n - 3) (omega arith), g, e)
 
-pub last-span : (n u : ℕ) → 4 ≤ n → u ≡ n - 2 → locAt n (predℤ (pos u)) ≡ At InsideHigh (n - 4)
+pub last-span : (n u : ℕ) → 4 ≤ n → u ≡ n - 2 → locOfCell n (predℤ (pos u)) ≡ At InsideHigh (n - 4)
 last-span n zero hn h = absurd (let q : ⊥ = omega arith in q)
 last-span n (suc u) hn h =
     let g : min u (n - 4) ≡ n - 4 = omega arith in
     rw (le-ltb u (n - 3) (omega arith), eq-eqb u (n - 3) (omega arith), g)
 
-pub past-span : (n u : ℕ) → 4 ≤ n → n - 2 ≤ u → (u ≡ n - 2 → ⊥) → locAt n (predℤ (pos u)) ≡ At OutsideHigh (n - 4)
+pub past-span : (n u : ℕ) → 4 ≤ n → n - 2 ≤ u → (u ≡ n - 2 → ⊥) → locOfCell n (predℤ (pos u)) ≡ At OutsideHigh (n - 4)
 past-span n zero hn h other = absurd (let q : ⊥ = omega arith in q)
 past-span n (suc u) hn h other =
     let k : n - 2 < suc u = lt-of-le-ne h (λ e. other (sym e)) in
@@ -45,7 +45,7 @@ abbrev originIn : Loc → ℕ
 originIn (At sat origin) = origin
 originIn Unrepresentable = 0
 
-cell-room : (n : ℕ) (b : Bool) (cell : ℤ) → originIn (cond b (locAt n cell) Unrepresentable) ≤ n - 4
+cell-room : (n : ℕ) (b : Bool) (cell : ℤ) → originIn (cond b (locOfCell n cell) Unrepresentable) ≤ n - 4
 cell-room n true (pos c) = omega arith
 cell-room n true (negsuc k) = omega arith
 cell-room n false cell = omega arith

@@ -13,7 +13,7 @@ use Rattle.shape.proofs.Lengths.{or-false}
 use Rattle.shape.proofs.Below.{and-both}
 use Rattle.multibspline.specs.Numbers.{f0, f-1}
 use Rattle.multibspline.specs.declared.saturation.Saturation.the-variants.{OutsideLow}
-use Rattle.regular_weights.specs.Place.{locAt, locOf}
+use Rattle.regular_weights.specs.Place.{locOfCell, locOf}
 use Rattle.regular_weights.specs.declared.place.Loc.the-variants.{At, Unrepresentable}
 
 abbrev 2^63 : Float
@@ -53,24 +53,24 @@ ceil-pos : (a b : ℕ) → 0 < b → 0 < a → 0 < (a + (b - 1)) / b
 ceil-pos a b B h = le-div-iff-mul-le B .1 (omega arith)
 
 in-range : (n a b : ℕ) → 0 < b → ltb (a * 1) (2 ^ 63 * b) ≡ true
-    → cond (ltb (a / b) (2 ^ 63)) (locAt n (predℤ (pos (a / b)))) Unrepresentable ≡ locAt n (predℤ (pos (min (a / b) (2 ^ 64 - 1))))
+    → cond (ltb (a / b) (2 ^ 63)) (locOfCell n (predℤ (pos (a / b)))) Unrepresentable ≡ locOfCell n (predℤ (pos (min (a / b) (2 ^ 64 - 1))))
 in-range n a b B r =
     let g = ltb-true (a * 1) (2 ^ 63 * b) r in
     let h : a / b < 2 ^ 63 = div-lt-iff-lt-mul B .1 (omega arith) in
     let u : min (a / b) (2 ^ 64 - 1) ≡ a / b = omega arith in
     rw (lt-ltb (a / b) (2 ^ 63) h, u)
 
-over : (n a b : ℕ) → 0 < b → ltb (a * 1) (2 ^ 63 * b) ≡ false → cond (ltb (a / b) (2 ^ 63)) (locAt n (predℤ (pos (a / b)))) Unrepresentable ≡ Unrepresentable
+over : (n a b : ℕ) → 0 < b → ltb (a * 1) (2 ^ 63 * b) ≡ false → cond (ltb (a / b) (2 ^ 63)) (locOfCell n (predℤ (pos (a / b)))) Unrepresentable ≡ Unrepresentable
 over n a b B r =
     let g = ltb-false (a * 1) (2 ^ 63 * b) r in
     let h : 2 ^ 63 ≤ a / b = le-div-iff-mul-le B .1 (omega arith) in
     rw (le-ltb (a / b) (2 ^ 63) h)
 
-low-cell : (n k : ℕ) → 0 < k → k < 2 ^ 63 → cond (ltb (natAbs (negℤ (pos k))) (2 ^ 63)) (locAt n (predℤ (negℤ (pos k)))) Unrepresentable ≡ At OutsideLow 0
+low-cell : (n k : ℕ) → 0 < k → k < 2 ^ 63 → cond (ltb (natAbs (negℤ (pos k))) (2 ^ 63)) (locOfCell n (predℤ (negℤ (pos k)))) Unrepresentable ≡ At OutsideLow 0
 low-cell n zero p h = absurd (let q : ⊥ = omega arith in q)
 low-cell n (suc k) p h = rw (lt-ltb (suc k) (2 ^ 63) h)
 
-under-cell : (n k : ℕ) → 2 ^ 63 ≤ k → cond (ltb (natAbs (negℤ (pos k))) (2 ^ 63)) (locAt n (predℤ (negℤ (pos k)))) Unrepresentable ≡ Unrepresentable
+under-cell : (n k : ℕ) → 2 ^ 63 ≤ k → cond (ltb (natAbs (negℤ (pos k))) (2 ^ 63)) (locOfCell n (predℤ (negℤ (pos k)))) Unrepresentable ≡ Unrepresentable
 under-cell n zero h = absurd (let q : ⊥ = omega arith in q)
 under-cell n (suc k) h = rw (le-ltb (suc k) (2 ^ 63) h)
 
@@ -116,7 +116,7 @@ below-twice (inf false) r = absurd (f≠t r)
 below-twice (fin false m e) r = lt→ltb (m * up e * 1) (2 ^ 64 * down e) (omega (arith, ltb-true (m * up e * 1) (2 ^ 63 * down e) r))
 below-twice (fin true m e) r = lt→ltb 0 (m * up e * 1 + 2 ^ 64 * down e) (omega (arith, down-pos e))
 
-pub loc-in : (n : ℕ) (q : Float) → le f0 q ≡ true → lt q 2^63 ≡ true → locOf n q ≡ locAt n (predℤ (pos (toUnsigned 64 q)))
+pub loc-in : (n : ℕ) (q : Float) → le f0 q ≡ true → lt q 2^63 ≡ true → locOf n q ≡ locOfCell n (predℤ (pos (toUnsigned 64 q)))
 unfolding le lt eq locOf toUnsigned
 loc-in n nan p r = absurd (f≠t p)
 loc-in n (inf true) p r = absurd (f≠t p)

@@ -2,4 +2,5 @@ pub mod Cells
 pub mod Floor
 pub mod Lengths
 pub mod Points
+pub mod Straight
 pub mod Whole

@@ -26,8 +26,8 @@ abbrev pub originOf : ℕ → ℤ → ℕ
 originOf n (negsuc k) = 0
 originOf n (pos cell) = min cell (n - 4)
 
-abbrev pub locAt : ℕ → ℤ → Loc
-locAt n cell = At (saturationOf n cell) (originOf n cell)
+abbrev pub locOfCell : ℕ → ℤ → Loc
+locOfCell n cell = At (saturationOf n cell) (originOf n cell)
 
 -- By the quotient q, which is (-1)^s × m × up e / down e where it is finite. Unrepresentable: q is NaN or infinite, its floor
 -- is outside the signed 64-bit range, or it is -2^63, from which 1 cannot be taken
@@ -36,7 +36,7 @@ locOf n nan = Unrepresentable
 locOf n (inf s) = Unrepresentable
 locOf n (fin s m e) =
     let floor = floorOf s (m * up e) (down e) in
-    cond (ltb (natAbs floor) (2 ^ 63)) (locAt n (predℤ floor)) Unrepresentable
+    cond (ltb (natAbs floor) (2 ^ 63)) (locOfCell n (predℤ floor)) Unrepresentable
 
 unfoldable pub getLoc : Format → ℕ → Float → Float → Float → Loc
 getLoc f n start step x = locOf n (div f (sub f x start) step)

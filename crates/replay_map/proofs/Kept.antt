@@ -1,20 +1,23 @@
 -- An input is kept whole, or its first 32,768 bytes are. Assumes nothing.
-use mathlib.Core.Path.{_≡_, refl, sym, _∙_}
-use mathlib.Core.Bool.{true, false, true≢false}
-use mathlib.Core.List.{List}
-use Prim.Native.Nat.{ℕ, _+_, _≤_, _<_}
-use native.Mathlib.Numerals.{add-one}
+use mathlib.Core.Path.{_≡_, ap, _∙_}
+use mathlib.Core.List.{List, append-nil, _++_}
+use Prim.Native.Nat.{ℕ, _-_, _<_}
 use native.Mathlib.Omega.{arith}
-use lib.ListN.{length, take, getD}
-use lib.Seq.{take-suc, take-all}
-use borrow.Author.Tests.{lt-ltb, le-ltb}
+use lib.ListN.{length, take, drop, take-append-drop, length-drop}
+use lib.Seq.{length-take-le, take-all, take-nil, drop-length}
 use Rattle.map_work.specs.Program.{program}
-use Rattle.replay_map.specs.Expected.{printed}
+use Rattle.map_work.specs.Steps.{Kept}
 
-pub printed-long : (input expected : List ℕ) → 32768 < length input → program true (take 32768 input) ≡ expected → printed input ≡ expected
-unfolding printed
-printed-long input expected l e = rw (lt-ltb 32768 (length input) l) e
+-- a long one: its first bytes and the rest
+module _ (input : List ℕ) (l : 32768 < length input) where
+  pub long-kept : Kept (length (take 32768 input)) (length (take (length input - 32768) (drop 32768 input)))
+  long-kept = let n = length-take-le 32768 input (omega arith) in record { most = rw n (omega arith); full = λ _. n }
 
-pub printed-short : (input expected : List ℕ) → length input ≤ 32768 → program false input ≡ expected → printed input ≡ expected
-unfolding printed
-printed-short input expected l e = rw (le-ltb 32768 (length input) l, take-all 32768 input l) e
+  pub long-printed : (expected : List ℕ) → program (take 32768 input ++ take (length input - 32768) (drop 32768 input)) ≡ expected → program input ≡ expected
+  long-printed expected e =
+      let rest = take-all (length input - 32768) (drop 32768 input) (rw length-drop (omega arith)) in
+      rw (rest, take-append-drop 32768 input) at e
+
+-- one that is kept whole: nothing is left
+pub short-printed : (input expected : List ℕ) → program (input ++ take (length input - length input) (drop (length input) input)) ≡ expected → program input ≡ expected
+short-printed input expected e = rw (drop-length input, take-nil, append-nil) at e

@@ -11,7 +11,7 @@ use lib.Dec.{eqb, ltb}
 use lib.ListN.{length, getD, take, drop, length-take}
 use lib.Seq.{length-take-le, getD-take, take-take}
 use borrow.Author.Tests.{ltb-false, lt-ltb, le-ltb, eqb-true, eqb-false, ne-eqb, eq-eqb}
-use Rattle.shape.specs.Shape.{product, longest, size, points, stride, lines, first, firstCell}
+use Rattle.shape.specs.Shape.{product, longest, size, points, NotEmpty, stride, lines, first, firstCell}
 use Rattle.shape.specs.Refusal.{refusalNumber, answerNumber}
 use Rattle.shape.specs.declared.answers.Refusal.{Refusal}
 use Rattle.shape.specs.declared.answers.Refusal.the-variants.{AxisCount, DimensionMismatch, TooManyPoints, ScratchTooSmall, NotIncreasing, Unrepresentable, NoSuchLine, AlreadySolved, NotDue}
@@ -22,7 +22,7 @@ use Rattle.shape.specs.Usable.{Usable, LinesWithin}
 use Rattle.shape.specs.Sizes.{coeffStorageLen, constructionScratchLen, strideOf, linesOf}
 use Rattle.shape.proofs.Lengths.{or-false}
 use Rattle.shape.proofs.Checks.{check-passed}
-use Rattle.shape.proofs.Radix.{NotEmpty, product-pos, stride-pos, span-pos, cut, cellAt-lt}
+use Rattle.shape.proofs.Radix.{product-pos, stride-pos, span-pos, cut, cellAt-lt}
 
 -- ---- lists of checks
 

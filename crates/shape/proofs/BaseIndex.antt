@@ -9,10 +9,10 @@ use native.Mathlib.Omega.{arith}
 use lib.ListN.{length, getD, take, drop}
 use lib.Seq.{drop-length, drop-cons, slice-empty}
 use borrow.Author.Tests.{eq-eqb, ne-eqb}
-use Rattle.shape.specs.Shape.{product, points, stride, lines, first, firstCell}
+use Rattle.shape.specs.Shape.{product, points, NotEmpty, stride, lines, first, firstCell}
 use Rattle.shape.specs.Places.{baseIndexFrom, lineBaseIndex}
 use Rattle.shape.proofs.Lengths.{product-cons}
-use Rattle.shape.proofs.Radix.{NotEmpty, stride-pos, cut, rem, product-pos, take-not-empty, drop-not-empty}
+use Rattle.shape.proofs.Radix.{stride-pos, cut, rem, product-pos, take-not-empty, drop-not-empty}
 
 -- ---- the next digit: n values, of weight p
 

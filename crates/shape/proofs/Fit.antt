@@ -7,15 +7,11 @@ use Prim.Native.Nat.{ℕ, zero, suc, _+_, _-_, _*_, _≤_, _<_}
 use native.Mathlib.Nat.{not-suc-le-zero, eq-or-lt-of-le, le-of-suc-le-suc}
 use native.Mathlib.Omega.{arith}
 use lib.ListN.{length, getD}
-use Rattle.shape.specs.Shape.{size, points, stride, lines, first, firstCell, lineOf, placeOf, cellAt, lineAt, placeAt}
+use Rattle.shape.specs.Shape.{size, points, NotEmpty, stride, lines, first, firstCell, lineOf, placeOf, cellAt, lineAt, placeAt}
 use Rattle.shape.specs.Cells.{onLine, line}
-use Rattle.shape.specs.Fit.{solveLine, solveLines, along, fitAfter}
+use Rattle.shape.specs.Fit.{Looks, solveLine, solveLines, along, fitAfter}
 use Rattle.shape.proofs.Cells.{length-put, line-in, line-out}
-use Rattle.shape.proofs.Radix.{NotEmpty, stride-pos, lineOf-cell, cell-lineOf, placeOf-lt, lineAt-lt, cellAt-lt}
-
--- only the samples of the line matter to a solver of n points
-abbrev pub Looks : {A : Type 0} → ((ℕ → A) → ℕ → A) → ℕ → Type 0
-Looks {A} solve n = (y z : ℕ → A) → ((k : ℕ) → k < n → y k ≡ z k) → (i : ℕ) → i < n → solve y i ≡ solve z i
+use Rattle.shape.proofs.Radix.{stride-pos, lineOf-cell, cell-lineOf, placeOf-lt, lineAt-lt, cellAt-lt}
 
 -- ---- the lines of an axis of n points that are s apart
 

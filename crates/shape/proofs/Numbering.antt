@@ -9,9 +9,9 @@ use Prim.Native.Nat.{ℕ, zero, suc, _+_, _*_, _/_, _%_, _≤_, _<_}
 use native.Mathlib.Nat.{mod-lt, div-add-mod', div-div-eq-div-mul, mul-comm, mul-pos, div-lt-iff-lt-mul, mul-le-mul-right, mul-add-div-right, mul-add-mod-self-right, not-suc-le-zero, le-of-suc-le-suc, mod-one, div-eq-of-lt, mod-eq-of-lt, eq-of-mul-eq-mul-right}
 use native.Mathlib.Omega.{arith}
 use lib.ListN.{length, getD, take, drop}
-use Rattle.shape.specs.Shape.{product, size, points, stride, lines, isLine, first, cellAt, lineAt, placeAt, lineOf, placeOf}
+use Rattle.shape.specs.Shape.{product, size, points, NotEmpty, stride, lines, isLine, first, cellAt, lineAt, placeAt, lineOf, placeOf}
 use Rattle.shape.specs.Places.{places, count, without}
-use Rattle.shape.proofs.Radix.{NotEmpty, product-pos, stride-pos, cut, quot, rem, cellAt-lineAt, cellAt-lt, placeAt-lt, lineAt-cellAt}
+use Rattle.shape.proofs.Radix.{product-pos, stride-pos, cut, quot, rem, cellAt-lineAt, cellAt-lt, placeAt-lt, lineAt-cellAt}
 
 later : (n : ℕ) (ns : List ℕ) → NotEmpty (n ∷ ns) → NotEmpty ns
 later n ns h a b = h (suc a) (omega arith)

@@ -6,7 +6,7 @@ use native.Mathlib.Nat.{mul-add-div-right, mul-add-mod-self-right, div-eq-of-lt,
 use native.Mathlib.Omega.{arith}
 use lib.ListN.{length, getD, take, drop, length-take}
 use lib.Seq.{getD-take, length-take-le}
-use Rattle.shape.specs.Shape.{product, size, points, stride, lines, first, firstCell, lineOf, placeOf, cellAt, lineAt, placeAt}
+use Rattle.shape.specs.Shape.{product, size, points, NotEmpty, stride, lines, first, firstCell, lineOf, placeOf, cellAt, lineAt, placeAt}
 
 -- ---- quotient and remainder are determined
 
@@ -74,9 +74,6 @@ cut (n ∷ ns) zero h = sym (one-mul (n * product ns))
 cut (n ∷ ns) (suc a) h =
     let e : product ns ≡ product (take a ns) * (getD ns a 0 * product (drop (suc a) ns)) = cut ns a (le-of-suc-le-suc h) in
     ap (λ (x : ℕ). n * x) e ∙ omega arith
-
-abbrev pub NotEmpty : List ℕ → Type 0
-NotEmpty dims = (a : ℕ) → a < length dims → 0 < points dims a
 
 pub product-pos : (dims : List ℕ) → NotEmpty dims → 0 < product dims
 unfolding product

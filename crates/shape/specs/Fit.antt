@@ -6,11 +6,15 @@
 use mathlib.Core.Path.{_≡_}
 use mathlib.Core.Bool.{cond}
 use mathlib.Core.List.{List}
-use Prim.Native.Nat.{ℕ, zero, suc, _-_}
+use Prim.Native.Nat.{ℕ, zero, suc, _-_, _<_}
 use lib.Dec.{eqb}
 use lib.ListN.{length}
 use Rattle.shape.specs.Shape.{longest, points, stride, lines, firstCell, first}
 use Rattle.shape.specs.Cells.{put, from, line, writeLine}
+
+-- what a solver owes: to coefficient i of a line of n points only the samples of that line matter
+abbrev pub Looks : {A : Type 0} → ((ℕ → A) → ℕ → A) → ℕ → Type 0
+Looks {A} solve n = (y z : ℕ → A) → ((k : ℕ) → k < n → y k ≡ z k) → (i : ℕ) → i < n → solve y i ≡ solve z i
 
 -- ---- an axis of n points that are s apart
 

@@ -2,7 +2,7 @@
 -- C order, the last axis fastest. Assumes nothing.
 use mathlib.Core.Bool.{Bool, _&&_}
 use mathlib.Core.List.{List, [], _∷_}
-use Prim.Native.Nat.{ℕ, zero, suc, _+_, _*_, _/_, _%_, max}
+use Prim.Native.Nat.{ℕ, zero, suc, _+_, _*_, _/_, _%_, _<_, max}
 use lib.ListN.{length, getD, take, drop}
 use lib.Dec.{ltb}
 
@@ -22,6 +22,10 @@ size dims = product dims
 -- the number of points on axis a
 abbrev pub points : List ℕ → ℕ → ℕ
 points dims a = getD dims a 0
+
+-- every axis has a point
+abbrev pub NotEmpty : List ℕ → Type 0
+NotEmpty dims = (a : ℕ) → a < length dims → 0 < points dims a
 
 -- how far apart two neighbours on axis a are: the cells that the later axes have, so 1 for the last axis
 abbrev pub stride : List ℕ → ℕ → ℕ

@@ -11,7 +11,7 @@ use Rattle.shape.specs.Checks.{firstRefusal, Positive}
 use Rattle.shape.specs.Usable.{Usable}
 use Rattle.shape.proofs.Accepted.{usable, axes-are}
 use Rattle.shape.proofs.Checks.{check-fails, check-passes, length-fails, length-passes, length-passed}
-use Rattle.shape.proofs.Fit.{Looks}
+use Rattle.shape.specs.Fit.{Looks}
 use Rattle.knots.specs.Joined.{total, knotsOf, allRise}
 use Rattle.knots.specs.Checks.{gridCheck, knotsCheck}
 use Rattle.knots.proofs.Totals.{length-knotsOf}

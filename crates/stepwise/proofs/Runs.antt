@@ -21,7 +21,8 @@ use Rattle.shape.specs.Usable.{Usable}
 use Rattle.shape.proofs.Accepted.{refusal-append, passed-append, usable, axes-are, positive-append}
 use Rattle.book.specs.LineCall.{Call, State, bumped, beginChecks, beginAnswer, callChecks, callAnswer, lineCall, callScratch, after, answers, begun}
 use Rattle.book.specs.Order.{Claim}
-use Rattle.book.proofs.Answers.{CallPassed, begin-passed, call-passed, length-coefs, length-ledger, length-call-scratch}
+use Rattle.book.proofs.Answers.{CallPassed, begin-passed, call-passed}
+use Rattle.book.proofs.SameLengths.{length-coefs, length-ledger, length-call-scratch}
 use Rattle.stepwise.specs.Calls.{taskList, Begun, listChecks, LineCalled, taskScratch, OneRan, ListRan, Ran}
 use Rattle.ledger.proofs.Stages.{is-accepted, is-refused, refusal-some, refusal-not-0}
 

@@ -11,7 +11,7 @@ use lib.ListN.{length, take, set}
 use Rattle.shape.specs.Checks.{Check, firstRefusal, lengthCheck}
 use Rattle.book.specs.LineCall.{Call, State, beginChecks, beginAnswer, callAnswer, lineCall, callScratch, after, answers, begun}
 use Rattle.book.specs.Book.{bookAfter, bookAnswers}
-use Rattle.book.specs.Order.{Agrees}
+use Rattle.book.specs.Order.{fedList, Agrees}
 
 -- ---- the calls of a list: one for each axis and line, each with scratch of the same length
 
@@ -70,5 +70,5 @@ module _ (count : ℕ) (lens : List ℕ) (grid knots : List Check) where
           ≡ firstRefusal (listChecks (length samples) (length (state .coefs)) (length (state .ledger)) (length scratch) (length axes) (length lines) (length told))
       pub leaves : state′ ≡ cond (eqb answer 0) (after count lens grid knots o solve (taskList axes lines scratch) (begun (take count lens) samples)) state
       pub scratch-after : scratch′ ≡ cond (eqb answer 0) (taskScratch axes lines (begun (take count lens) samples) scratch) scratch
-      pub tells : told′ ≡ cond (eqb answer 0) (bookAnswers (take count lens) (taskList axes lines scratch) []) told
-      pub agrees : answer ≡ 0 → Agrees o solve (take count lens) samples state′ (bookAfter (take count lens) (taskList axes lines scratch) [])
+      pub tells : told′ ≡ cond (eqb answer 0) (bookAnswers (take count lens) (fedList (taskList axes lines scratch)) []) told
+      pub agrees : answer ≡ 0 → Agrees o solve (take count lens) samples state′ (bookAfter (take count lens) (fedList (taskList axes lines scratch)) [])

@@ -22,7 +22,7 @@ returns : tie.Need-returns Inv-loop μ-loop
 returns c = search Reading-bad
 
 mul-n : tie.Need-mul-n Inv-loop μ-loop
-mul-n c = let x = c .before .before .before .before in record { fits = Reading-mul _ _ _ (x .loop .i) (c .before .digit .result) (x .loop .inv) (search needs) (c .before .digit .ensures) (c .if1 .left) (x .before .before .pre) }
+mul-n c = let x = c .before .before .before .before in record { fits = Reading-mul _ _ _ (x .loop .i) (c .before .digit .result) (x .loop .inv) (search needs) (c .if1 .left) (x .before .before .pre) }
 
 pub read-digits-spec : {M : Type 1} → statement M
 read-digits-spec =

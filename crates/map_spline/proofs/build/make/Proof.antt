@@ -24,7 +24,7 @@ same-length-2 : tie.Need-same-length-2
 same-length-2 c = search needs
 
 returns : tie.Need-returns
-returns c = made-at (rw (c .before .before .before .before .before .before .before .before .before .before .if1 .taken)) (rw (c .before .before .before .before .before .before .before .before .before .before .if1 .taken)) (c .number .ensures) (c .before .before .before .before .before .before .before .make-regular .ensures)
+returns c = made-at (rw (c .before .before .before .before .before .before .before .before .before .before .if1 .taken)) (rw (c .before .before .before .before .before .before .before .before .before .before .if1 .taken)) (rw (c .before .before .before .before .before .before .before .before .before .before .if1 .taken)) (c .number .ensures) (c .before .before .before .before .before .before .before .make-regular .ensures)
 
 make-rectilinear-requires : tie.Need-make-rectilinear-requires
 make-rectilinear-requires c κs = lent-at (rw (c .before .before .if1 .left)) (c .before .before .before .before .before .before .before .pre)
@@ -42,7 +42,7 @@ same-length-4 : tie.Need-same-length-4
 same-length-4 c = search needs
 
 returns-2 : tie.Need-returns-2
-returns-2 c = made-at (rw (c .before .before .before .before .before .before .before .before .before .before .if1 .left)) (rw (c .before .before .before .before .before .before .before .before .before .before .if1 .left)) (c .number2 .ensures) (c .before .before .before .before .before .before .before .make-rectilinear .ensures)
+returns-2 c = made-at (rw (c .before .before .before .before .before .before .before .before .before .before .if1 .left)) (rw (c .before .before .before .before .before .before .before .before .before .before .if1 .left)) (rw (c .before .before .before .before .before .before .before .before .before .before .if1 .left)) (c .number2 .ensures) (c .before .before .before .before .before .before .before .make-rectilinear .ensures)
 
 pub make-spec : {M : Type 1} → statement M
 make-spec =

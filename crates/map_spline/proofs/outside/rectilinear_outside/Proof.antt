@@ -1,52 +1,48 @@
-use Rattle.shape.proofs.Below.{NoneYet, none-start, none-done}
-use Rattle.map_spline.proofs.Axes.{axis-found, axis-passed}
-use Rattle.map_spline.specs.Outside.{rectilinearAxisOutside}
 use Prim.Native.Nat.{_-_}
 use native.Mathlib.Omega.{arith}
-use borrow.Author.Needs.{needs}
+use lib.ListN.{length}
+use Rattle.shape.proofs.Below.{NoneYet, none-start, none-done}
+use Rattle.map_spline.specs.Outside.{rectilinearAxisOutside}
+use Rattle.map_spline.proofs.Axes.{axis-found, axis-passed}
 use Rattle.map_spline.proofs.outside.rectilinear_outside.Statement.{statement}
 use Rattle.map_spline.proofs.outside.rectilinear_outside.Tie as tie
-use Rattle.map_spline.proofs.outside.rectilinear_outside.Reads as reads
-use Rattle.map_spline.proofs.outside.rectilinear_outside.Lts as lts
-use Rattle.map_spline.proofs.outside.rectilinear_axis.Reads as rectilinear-axis-reads
 
-abbrev Inv-loop : tie.InvT-loop
-Inv-loop count dims grid x a₀ a = NoneYet (rectilinearAxisOutside count dims grid x) count a
+abbrev Inv : tie.InvT-loop
+Inv map grid x a₀ a = NoneYet (rectilinearAxisOutside (map .count) (map .dims) grid x) (map .count) a
 
-abbrev μ-loop : tie.MeasureT-loop
-μ-loop count dims grid x a₀ a = count - a
+abbrev μ : tie.MeasureT-loop
+μ map grid x a₀ a = length x - a
 
-loop-holds : tie.Need-loop-holds Inv-loop μ-loop
-loop-holds c = none-start _ _
+rectilinear-axis-requires : tie.Need-rectilinear-axis-requires Inv μ
+rectilinear-axis-requires c κs =
+    let t = c .before in
+    let s = t .before .before .before .before in
+    (s .pre .0, omega (arith, s .pre .1, t .loop-test .taken))
 
-rectilinear-axis-requires : tie.Need-rectilinear-axis-requires Inv-loop μ-loop
-rectilinear-axis-requires c κs = search needs
+returns : tie.Need-returns Inv μ
+unfolding rectilinearAxisOutside
+returns c =
+    let i = c .before in
+    let t = i .before .before in
+    let l = t .before in
+    let s = l .before .before .before in
+    axis-found _ _ (l .loop .a) _ (l .loop .inv) (i .rectilinear-axis .ensures) (omega (arith, s .pre .1, t .loop-test .taken)) (c .if1 .taken)
 
-returns : tie.Need-returns Inv-loop μ-loop
-returns c = search axis-found
+loop-again : tie.Need-loop-again Inv μ
+unfolding rectilinearAxisOutside
+loop-again c =
+    let i = c .before in
+    let t = i .before .before in
+    let l = t .before in
+    let s = l .before .before .before in
+    axis-passed _ _ (l .loop .a) _ (l .loop .inv) (i .rectilinear-axis .ensures) (omega (arith, s .pre .1, t .loop-test .taken)) (c .if1 .left)
 
-add-a : tie.Need-add-a Inv-loop μ-loop
-add-a c = omega arith
-
-loop-less : tie.Need-loop-less Inv-loop μ-loop
-loop-less c = omega arith
-
-loop-again : tie.Need-loop-again Inv-loop μ-loop
-loop-again c = search axis-passed
-
-returns-2 : tie.Need-returns-2 Inv-loop μ-loop
-returns-2 c = search none-done
+returns-2 : tie.Need-returns-2 Inv μ
+returns-2 c =
+    let l = c .before in
+    none-done _ _ (l .loop .a) (l .loop .inv) (omega (arith, l .before .before .before .pre .1, c .loop-test .left))
 
 pub rectilinear-outside-spec : {M : Type 1} → statement M
 rectilinear-outside-spec =
     tie.close
-    (tie.spec
-    Inv-loop
-    μ-loop
-    loop-holds
-    rectilinear-axis-requires
-    returns
-    add-a
-    loop-less
-    loop-again
-    returns-2)
+    (tie.spec Inv μ (λ c. none-start _ _) (λ c. omega arith) (λ c. omega arith) rectilinear-axis-requires returns (λ c. omega arith) (λ c. omega arith) loop-again returns-2)

@@ -1,86 +1,49 @@
-use Rattle.shape.proofs.Below.{NoneYet, none-start, none-done}
-use Rattle.map_spline.proofs.Axes.{axis-found, axis-passed}
-use Rattle.map_spline.specs.Outside.{regularAxisOutside}
-use lib.Ieee.{binary64}
 use Prim.Native.Nat.{_-_}
 use native.Mathlib.Omega.{arith}
+use lib.Ieee.{binary64}
+use lib.ListN.{length}
+use Rattle.shape.proofs.Below.{NoneYet, none-start, none-done}
+use Rattle.map_spline.specs.Outside.{regularAxisOutside}
+use Rattle.map_spline.proofs.Axes.{axis-found, axis-passed}
 use Rattle.map_spline.proofs.outside.regular_outside.Statement.{statement}
 use Rattle.map_spline.proofs.outside.regular_outside.Tie as tie
-use Rattle.map_spline.proofs.outside.regular_outside.Reads as reads
-use Rattle.map_spline.proofs.outside.regular_outside.Lts as lts
-use Rattle.map_spline.proofs.outside.regular_axis.Reads as regular-axis-reads
 
-abbrev Inv-loop : tie.InvT-loop
-Inv-loop count x dims starts steps a₀ a = NoneYet (regularAxisOutside binary64 dims starts steps x) count a
+abbrev Inv : tie.InvT-loop
+Inv map x a₀ a = NoneYet (regularAxisOutside binary64 (map .dims) (map .starts) (map .steps) x) (map .count) a
 
-abbrev μ-loop : tie.MeasureT-loop
-μ-loop count x dims starts steps a₀ a = count - a
+abbrev μ : tie.MeasureT-loop
+μ map x a₀ a = length x - a
 
-loop-holds : tie.Need-loop-holds Inv-loop μ-loop
-loop-holds c = none-start _ _
+regular-axis-requires : tie.Need-regular-axis-requires Inv μ
+regular-axis-requires c κs =
+    let t = c .before in
+    let s = t .before .before .before in
+    (s .pre .0, omega (arith, s .pre .1, t .loop-test .taken))
 
-mul-regular-axis : tie.Need-mul-regular-axis Inv-loop μ-loop
-mul-regular-axis c = omega arith
-
-array-read-regular-axis : tie.Need-array-read-regular-axis Inv-loop μ-loop
-array-read-regular-axis c = omega arith
-
-mul-regular-axis-2 : tie.Need-mul-regular-axis-2 Inv-loop μ-loop
-mul-regular-axis-2 c = omega arith
-
-array-read-regular-axis-2 : tie.Need-array-read-regular-axis-2 Inv-loop μ-loop
-array-read-regular-axis-2 c = omega arith
-
-mul-regular-axis-3 : tie.Need-mul-regular-axis-3 Inv-loop μ-loop
-mul-regular-axis-3 c = omega arith
-
-array-read-regular-axis-3 : tie.Need-array-read-regular-axis-3 Inv-loop μ-loop
-array-read-regular-axis-3 c = omega arith
-
-mul-regular-axis-4 : tie.Need-mul-regular-axis-4 Inv-loop μ-loop
-mul-regular-axis-4 c = omega arith
-
-shared-slice-read-regular-axis : tie.Need-shared-slice-read-regular-axis Inv-loop μ-loop
-shared-slice-read-regular-axis c = omega arith
-
-regular-axis-requires : tie.Need-regular-axis-requires Inv-loop μ-loop
-regular-axis-requires c κs = c .before .before .before .before .pre .0 .four-points _ (c .before .loop-test .taken)
-
-returns : tie.Need-returns Inv-loop μ-loop
+returns : tie.Need-returns Inv μ
 unfolding regularAxisOutside
-returns c = search axis-found
+returns c =
+    let i = c .before in
+    let t = i .before .before in
+    let l = t .before in
+    let s = l .before .before in
+    axis-found _ _ (l .loop .a) _ (l .loop .inv) (i .regular-axis .ensures) (omega (arith, s .pre .1, t .loop-test .taken)) (c .if1 .taken)
 
-add-a : tie.Need-add-a Inv-loop μ-loop
-add-a c = omega arith
-
-loop-less : tie.Need-loop-less Inv-loop μ-loop
-loop-less c = omega arith
-
-loop-again : tie.Need-loop-again Inv-loop μ-loop
+loop-again : tie.Need-loop-again Inv μ
 unfolding regularAxisOutside
-loop-again c = search axis-passed
+loop-again c =
+    let i = c .before in
+    let t = i .before .before in
+    let l = t .before in
+    let s = l .before .before in
+    axis-passed _ _ (l .loop .a) _ (l .loop .inv) (i .regular-axis .ensures) (omega (arith, s .pre .1, t .loop-test .taken)) (c .if1 .left)
 
-returns-2 : tie.Need-returns-2 Inv-loop μ-loop
-returns-2 c = search none-done
+returns-2 : tie.Need-returns-2 Inv μ
+returns-2 c =
+    let l = c .before in
+    none-done _ _ (l .loop .a) (l .loop .inv) (omega (arith, l .before .before .pre .1, c .loop-test .left))
 
 pub regular-outside-spec : {M : Type 1} → statement M
 regular-outside-spec =
     tie.close
-    (tie.spec
-    Inv-loop
-    μ-loop
-    loop-holds
-    mul-regular-axis
-    array-read-regular-axis
-    mul-regular-axis-2
-    array-read-regular-axis-2
-    mul-regular-axis-3
-    array-read-regular-axis-3
-    mul-regular-axis-4
-    shared-slice-read-regular-axis
-    regular-axis-requires
-    returns
-    add-a
-    loop-less
-    loop-again
-    returns-2)
+    (tie.spec Inv μ (λ c. none-start _ _) (λ c. omega arith) (λ c. omega arith) regular-axis-requires returns (λ c. omega arith) (λ c. omega arith) loop-again returns-2)

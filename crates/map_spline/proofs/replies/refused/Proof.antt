@@ -12,7 +12,7 @@ number-requires c κs = search needs
 
 returns : tie.Need-returns
 unfolding ofBits
-returns c = (c .number .ensures, refl, refl)
+returns c = (c .number .ensures, refl, refl, refl)
 
 pub refused-spec : {M : Type 1} → statement M
 refused-spec = tie.close (tie.spec number-requires returns)

@@ -1,7 +1,8 @@
 use Rattle.map_work.proofs.FirstThree.{lent-same, ready-next, row-wanted, row-read, row-unread}
+use Rattle.map_print.proofs.Printing.{Wrote-as}
 use lib.ListN.{take}
 use native.Mathlib.Omega.{arith}
-use mathlib.Core.Path.{refl, _∙_}
+use mathlib.Core.Path.{refl}
 use borrow.Author.Needs.{needs}
 use Rattle.map_work.proofs.lines.from_row.Statement.{statement}
 use Rattle.map_work.proofs.lines.from_row.Tie as tie
@@ -36,7 +37,7 @@ same-length-6 : tie.Need-same-length-6
 same-length-6 c = search needs
 
 returns : tie.Need-returns
-returns c = let s = c .before .before .before .before .before .before .before .before .before .before .before .before .before .before .before .before .before .before .before .before .before .before .before .before .before .before .before .before .before in let a = s .args in c .before .before .before .before .before .before .before .before .before .before .from-samples .ensures ∙ row-read _ _ _ _ _ _ (c .before .before .before .before .before .before .before .before .before .before .before .before .before .before .before .before .before .before .before .before .read-row .ensures) (a .regular) (a .linear) (take (a .count) (a .dims)) (row-wanted (a .regular) (a .count) (a .dims) _ _ _ _ (omega (arith, s .good)) (s .pre .0)) (c .before .before .before .before .before .before .before .before .before .before .before .before .before .before .before .before .before .if1 .taken)
+returns c = let s = c .before .before .before .before .before .before .before .before .before .before .before .before .before .before .before .before .before .before .before .before .before .before .before .before .before .before .before .before .before in let a = s .args in Wrote-as (row-read _ _ _ _ _ _ (c .before .before .before .before .before .before .before .before .before .before .before .before .before .before .before .before .before .before .before .before .read-row .ensures) (a .regular) (a .linear) (take (a .count) (a .dims)) (row-wanted (a .regular) (a .count) (a .dims) _ _ _ _ (omega (arith, s .good)) (s .pre .0)) (c .before .before .before .before .before .before .before .before .before .before .before .before .before .before .before .before .before .if1 .taken)) (c .before .before .before .before .before .before .before .before .before .before .from-samples .ensures)
 
 put-unreadable-requires : tie.Need-put-unreadable-requires
 put-unreadable-requires c κs = search needs

@@ -1,4 +1,5 @@
 use Rattle.map_work.proofs.FirstThree.{limit-usable, shape-read, shape-refused}
+use Rattle.map_spline.proofs.Digits.{shape-digit}
 use lib.ListN.{take}
 use native.Mathlib.Omega.{arith}
 use mathlib.Core.Path.{sym, _∙_}
@@ -15,7 +16,7 @@ shape-number-requires : tie.Need-shape-number-requires
 shape-number-requires c κs = search needs
 
 sized-requires : tie.Need-sized-requires
-sized-requires c κs = let s = c .before .before .before .before .before .before .before .before .before .before .before .before .before .before .before in let a = s .args in (limit-usable (a .count) (a .dims) (omega (arith, s .good)) (sym (c .before .before .before .before .before .before .before .shape-number .ensures .0) ∙ c .before .before .before .before .before .before .if1 .taken), (s .pre .0, s .pre .1))
+sized-requires c κs = let s = c .before .before .before .before .before .before .before .before .before .before .before .before .before .before .before in let a = s .args in (limit-usable (a .count) (a .dims) (omega (arith, s .good)) (sym (c .before .before .before .before .before .before .before .shape-number .ensures) ∙ c .before .before .before .before .before .before .if1 .taken), (s .pre .0, s .pre .1))
 
 same-length : tie.Need-same-length
 same-length c = search needs
@@ -36,16 +37,16 @@ same-length-6 : tie.Need-same-length-6
 same-length-6 c = search needs
 
 returns : tie.Need-returns
-returns c = let s = c .before .before .before .before .before .before .before .before .before .before .before .before .before .before .before .before .before .before .before .before .before .before .before .before .before .before .before .before in let a = s .args in shape-read (record { regular = a .regular; linear = a .linear; dims = take (a .count) (a .dims) }) (a .count) _ _ (c .before .before .before .before .before .before .before .before .before .before .before .before .before .before .before .before .before .before .before .before .shape-number .ensures .0) _ (c .before .before .before .before .before .before .before .before .before .before .before .before .before .before .before .before .before .before .before .if1 .taken) (c .before .before .before .before .before .before .before .before .before .before .before .before .sized .ensures)
+returns c = let s = c .before .before .before .before .before .before .before .before .before .before .before .before .before .before .before .before .before .before .before .before .before .before .before .before .before .before .before .before in let a = s .args in shape-read (record { regular = a .regular; linear = a .linear; dims = take (a .count) (a .dims) }) (a .count) _ _ (c .before .before .before .before .before .before .before .before .before .before .before .before .before .before .before .before .before .before .before .before .shape-number .ensures) _ _ _ (c .before .before .before .before .before .before .before .before .before .before .before .before .before .before .before .before .before .before .before .if1 .taken) (c .before .before .before .before .before .before .before .before .before .before .before .before .sized .ensures)
 
 put-map-requires : tie.Need-put-map-requires
-put-map-requires c κs = search needs
+put-map-requires c κs = let s = c .before .before .before .before .before .before .before .before .before .before in let a = s .args in (omega (arith, s .pre), rw (c .before .before .shape-number .ensures) (shape-digit 512 (a .count) (take (a .count) (a .dims))))
 
 same-length-7 : tie.Need-same-length-7
 same-length-7 c = search needs
 
 returns-2 : tie.Need-returns-2
-returns-2 c = let s = c .before .before .before .before .before .before .before .before .before .before .before .before .before in let a = s .args in shape-refused (record { regular = a .regular; linear = a .linear; dims = take (a .count) (a .dims) }) (a .count) _ _ (c .before .before .before .before .before .shape-number .ensures .0) _ _ _ (c .before .before .before .before .if1 .left) (c .before .before .put-map .ensures)
+returns-2 c = let s = c .before .before .before .before .before .before .before .before .before .before .before .before .before in let a = s .args in shape-refused (record { regular = a .regular; linear = a .linear; dims = take (a .count) (a .dims) }) (a .count) _ _ (c .before .before .before .before .before .shape-number .ensures) _ _ _ (c .before .before .before .before .if1 .left) (c .before .before .put-map .ensures)
 
 pub from-shape-spec : {M : Type 1} → statement M
 from-shape-spec =

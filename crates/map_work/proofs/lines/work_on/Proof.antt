@@ -1,4 +1,4 @@
-use Rattle.map_work.proofs.FirstThree.{too-long, no-line, good-head, bad-head}
+use Rattle.map_work.proofs.FirstThree.{too-long, empty-input, good-head, bad-head}
 use borrow.Author.Needs.{needs}
 use Rattle.map_work.proofs.lines.work_on.Statement.{statement}
 use Rattle.map_work.proofs.lines.work_on.Tie as tie
@@ -17,7 +17,7 @@ same-length : tie.Need-same-length
 same-length c = search needs
 
 returns : tie.Need-returns
-returns c = too-long _ _ _ _ _ (c .before .before .before .before .if1 .taken) (c .before .before .put-unreadable .ensures)
+returns c = let s = c .before .before .before .before .before .before .before .before .before .before .before .before .before .before in too-long (s .args .input .now) (s .args .spare .now) (s .pre .1) _ _ _ (c .before .before .before .before .if1 .taken) (c .before .before .put-unreadable .ensures)
 
 put-unreadable-requires-2 : tie.Need-put-unreadable-requires-2
 put-unreadable-requires-2 c κs = search needs
@@ -26,7 +26,7 @@ same-length-2 : tie.Need-same-length-2
 same-length-2 c = search needs
 
 returns-2 : tie.Need-returns-2
-returns-2 c = no-line _ (c .before .before .before .before .before .if1 .left) _ _ _ _ (c .before .before .before .before .if2 .taken) (c .before .before .put-unreadable2 .ensures)
+returns-2 c = let s = c .before .before .before .before .before .before .before .before .before .before .before .before .before .before .before in empty-input (s .args .input .now) (s .args .spare .now) (s .pre .1) (c .before .before .before .before .before .if1 .left) _ _ _ (c .before .before .before .before .if2 .taken) (c .before .before .put-unreadable2 .ensures)
 
 find-requires : tie.Need-find-requires
 find-requires c κs = search needs
@@ -65,7 +65,7 @@ same-length-9 : tie.Need-same-length-9
 same-length-9 c = search needs
 
 returns-3 : tie.Need-returns-3
-returns-3 c = good-head _ (c .before .before .before .before .before .before .before .before .before .before .before .before .before .before .before .before .before .before .before .before .before .before .before .before .before .before .before .before .if1 .left) _ (c .before .before .before .before .before .before .before .before .before .before .before .before .before .before .before .before .before .before .before .before .before .before .before .before .before .before .before .if2 .left) _ (c .before .before .before .before .before .before .before .before .before .before .before .before .before .before .before .before .before .before .before .before .before .before .before .before .before .before .find .ensures .0) _ _ _ _ _ _ (c .before .before .before .before .before .before .before .before .before .before .before .before .before .before .before .before .before .before .before .before .before .before .before .before .head-at .ensures) _ (c .before .before .before .before .before .before .before .before .before .before .before .before .before .before .before .before .before .before .before .before .before .if3 .taken) (c .before .before .before .before .before .before .before .before .before .before .before .before .before .before .before .before .before .before .before .before .before .before .before .before .before .before .before .before .before .before .before .before .before .before .before .before .before .pre .0 .counts) (rw (c .before .before .before .before .before .before .before .before .before .before .before .before .before .before .before .before .before .before .before .four-of .ensures) at (c .before .before .before .before .before .before .before .before .before .before .before .before .from-shape .ensures))
+returns-3 c = let s = c .before .before .before .before .before .before .before .before .before .before .before .before .before .before .before .before .before .before .before .before .before .before .before .before .before .before .before .before .before .before .before .before .before .before .before .before .before .before in good-head (s .args .input .now) (s .args .spare .now) (s .pre .1) (c .before .before .before .before .before .before .before .before .before .before .before .before .before .before .before .before .before .before .before .before .before .before .before .before .before .before .before .before .if1 .left) (c .before .before .before .before .before .before .before .before .before .before .before .before .before .before .before .before .before .before .before .before .before .before .before .before .before .before .before .if2 .left) _ (c .before .before .before .before .before .before .before .before .before .before .before .before .before .before .before .before .before .before .before .before .before .before .before .before .before .before .find .ensures .0) _ _ _ _ _ _ (c .before .before .before .before .before .before .before .before .before .before .before .before .before .before .before .before .before .before .before .before .before .before .before .before .head-at .ensures) _ _ _ (c .before .before .before .before .before .before .before .before .before .before .before .before .before .before .before .before .before .before .before .before .before .if3 .taken) (s .pre .0 .counts) (rw (c .before .before .before .before .before .before .before .before .before .before .before .before .before .before .before .before .before .before .before .four-of .ensures) at (c .before .before .before .before .before .before .before .before .before .before .before .before .from-shape .ensures))
 
 put-unreadable-requires-3 : tie.Need-put-unreadable-requires-3
 put-unreadable-requires-3 c κs = search needs
@@ -77,7 +77,7 @@ same-length-11 : tie.Need-same-length-11
 same-length-11 c = search needs
 
 returns-4 : tie.Need-returns-4
-returns-4 c = bad-head _ (c .before .before .before .before .before .before .before .before .before .before .before .if1 .left) _ (c .before .before .before .before .before .before .before .before .before .before .if2 .left) _ (c .before .before .before .before .before .before .before .before .before .find .ensures .0) _ _ _ _ _ _ (c .before .before .before .before .before .before .before .head-at .ensures) _ _ _ (c .before .before .before .before .if3 .left) (c .before .before .put-unreadable3 .ensures)
+returns-4 c = let s = c .before .before .before .before .before .before .before .before .before .before .before .before .before .before .before .before .before .before .before .before .before in bad-head (s .args .input .now) (s .args .spare .now) (s .pre .1) (c .before .before .before .before .before .before .before .before .before .before .before .if1 .left) (c .before .before .before .before .before .before .before .before .before .before .if2 .left) _ (c .before .before .before .before .before .before .before .before .before .find .ensures .0) _ _ _ _ _ _ (c .before .before .before .before .before .before .before .head-at .ensures) _ _ _ (c .before .before .before .before .if3 .left) (c .before .before .put-unreadable3 .ensures)
 
 pub work-on-spec : {M : Type 1} → statement M
 work-on-spec =

@@ -1,4 +1,6 @@
 use Rattle.map_work.proofs.QueryLines.{answered}
+use Rattle.map_spline.proofs.Asking.{four-parts}
+use Rattle.map_spline.proofs.Digits.{asked-digit}
 use lib.Seq.{length-take-le}
 use lib.ListN.{length}
 use native.Mathlib.Omega.{arith}
@@ -15,19 +17,19 @@ ask-requires : tie.Need-ask-requires
 ask-requires c κs = search needs
 
 array-share-prefix-parts : tie.Need-array-share-prefix-parts
-array-share-prefix-parts c = omega (arith, c .before .before .ask .ensures .four-parts, c .before .before .before .before .before .before .before .pre)
+array-share-prefix-parts c = omega (arith, four-parts (c .before .before .ask .ensures), c .before .before .before .before .before .before .before .pre)
 
 slice-aggregate-put-answer : tie.Need-slice-aggregate-put-answer
-slice-aggregate-put-answer c = sym (length-take-le _ _ (omega (arith, c .before .before .before .ask .ensures .four-parts, c .before .before .before .before .before .before .before .before .pre)))
+slice-aggregate-put-answer c = sym (length-take-le _ _ (omega (arith, four-parts (c .before .before .before .ask .ensures), c .before .before .before .before .before .before .before .before .pre)))
 
 put-answer-requires : tie.Need-put-answer-requires
-put-answer-requires c κs = let n = length-take-le (length (c .before .before .before .before .before .before .before .before .args .x .now)) (c .before .before .before .ask .result .parts) (omega (arith, c .before .before .before .ask .ensures .four-parts, c .before .before .before .before .before .before .before .before .pre)) in (rw n (c .before .before .before .before .before .before .before .before .pre .2), c .before .before .before .ask .ensures .one-digit)
+put-answer-requires c κs = let n = length-take-le (length (c .before .before .before .before .before .before .before .before .args .x .now)) (c .before .before .before .ask .result .parts) (omega (arith, four-parts (c .before .before .before .ask .ensures), c .before .before .before .before .before .before .before .before .pre)) in (rw n (c .before .before .before .before .before .before .before .before .pre .2), rw (c .before .before .before .ask .ensures .the-number) (let a = c .before .before .before .before .before .before .before .before .args in asked-digit (a .map) (a .grid .now) (a .coeffs .now) (a .x .now)))
 
 same-length : tie.Need-same-length
 same-length c = search needs
 
 returns : tie.Need-returns
-returns c = answered _ _ _ _ _ _ _ _ _ _ (c .before .before .before .before .before .before .before .before .before .before .before .pre .0) (omega (arith, c .before .before .before .before .before .before .ask .ensures .four-parts, c .before .before .before .before .before .before .before .before .before .before .before .pre)) (c .before .before .before .before .before .before .ask .ensures) (c .before .before .put-answer .ensures)
+returns c = answered _ _ _ _ _ _ _ _ _ _ (c .before .before .before .before .before .before .before .before .before .before .before .pre .0) (omega (arith, four-parts (c .before .before .before .before .before .before .ask .ensures), c .before .before .before .before .before .before .before .before .before .before .before .pre)) (c .before .before .before .before .before .before .ask .ensures) (c .before .before .put-answer .ensures)
 
 pub answer-spec : {M : Type 1} → statement M
 answer-spec =

@@ -46,8 +46,9 @@ keep-line-requires c κs =
     let ks = now (a .grid) in
     let low = ghostNumbers (a .low-ghost) in
     let high = ghostNumbers (a .high-ghost) in
-    keep-room (coefficient binary64 ks low high) (length ks) (a .s) (a .lines) (a .m) _ (now (a .coeffs)) (now (a .scratch)) _ _ (upperNumber binary64 ks low high zeroSamples) (start .pre .0 .1) (start .pre .0 .0)
-    (base .first-cell-of .ensures) (solved .solve-in-place .ensures) (up .upper-numbers .ensures)
+    let pos = start .pre .0 .0 in
+    keep-room (coefficient binary64 ks low high) (length ks) (a .s) (a .lines) (a .m) _ _ (now (a .coeffs)) (now (a .scratch)) _ _ (upperNumber binary64 ks low high zeroSamples) (start .pre .0 .1)
+    (base .first-cell-of .ensures) (solved .solve-in-place .ensures) (up .upper-numbers .ensures) (omega arith)
 
 returns : tie.Need-returns
 returns c =

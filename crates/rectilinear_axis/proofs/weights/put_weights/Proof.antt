@@ -23,7 +23,7 @@ weights-at-requires c κs =
 put-row-requires : tie.Need-put-row-requires Inv μ
 put-row-requires c κs =
     let t = c .before .before .before .before in
-    rows-room _ _ _ _ (t .before .loop .inv) (t .loop-test .taken) (t .before .before .before .before .before .before .pre .0 .3)
+    omega (arith, rows-room _ _ _ _ (t .before .loop .inv) (t .loop-test .taken) (t .before .before .before .before .before .before .pre .0 .3))
 
 loop-again : tie.Need-loop-again Inv μ
 loop-again c =

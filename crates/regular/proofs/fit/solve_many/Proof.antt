@@ -39,8 +39,9 @@ keep-line-requires c κs =
     let up = solved .before .before .before .before .before in
     let start = up .before .before .before .before in
     let a = start .args in
-    keep-room (coefficient binary64 (a .n)) (a .n) (a .s) (a .lines) (a .m) _ (now (a .coeffs)) (now (a .scratch)) _ _ (upperNumber binary64 (a .n) zeroSamples) (start .pre .0 .1) (start .pre .0 .0)
-    (base .first-cell-of .ensures) (solved .solve-in-place .ensures) (up .upper-numbers .ensures)
+    let pos = start .pre .0 .0 in
+    keep-room (coefficient binary64 (a .n)) (a .n) (a .s) (a .lines) (a .m) _ _ (now (a .coeffs)) (now (a .scratch)) _ _ (upperNumber binary64 (a .n) zeroSamples) (start .pre .0 .1)
+    (base .first-cell-of .ensures) (solved .solve-in-place .ensures) (up .upper-numbers .ensures) (omega arith)
 
 returns : tie.Need-returns
 returns c =

@@ -3,7 +3,7 @@ use borrow.Author.Needs.{needs}
 use lib.Dec.{T}
 use lib.Ieee.{binary64, neg, ofBits}
 use lib.IntN.{pos, predℤ}
-use Rattle.regular_weights.specs.Place.{locAt, locOf}
+use Rattle.regular_weights.specs.Place.{locOfCell, locOf}
 use Rattle.regular_weights.proofs.Cells.{first-span, inner-span, last-span, past-span}
 use Rattle.regular_weights.proofs.Floor.{above-minus-one, below-twice, loc-in, loc-over, loc-low, loc-under}
 use Rattle.regular_weights.proofs.place.loc_of.Statement.{statement}
@@ -15,7 +15,7 @@ truncating-f64-to-u64-requires c κs = (above-minus-one _ (c .before .if1 .taken
 
 -- the place by what the cast gives
 seen : (c : tie.After-truncating-f64-to-u64)
-    → locOf (c .before .before .before .args .n) (c .before .before .before .args .q) ≡ locAt (c .before .before .before .args .n) (predℤ (pos (c .truncating-f64-to-u64 .result)))
+    → locOf (c .before .before .before .args .n) (c .before .before .before .args .q) ≡ locOfCell (c .before .before .before .args .n) (predℤ (pos (c .truncating-f64-to-u64 .result)))
 unfolding neg ofBits
 seen c = rw (c .truncating-f64-to-u64 .ensures) (loc-in _ _ (c .before .before .if1 .taken) (c .before .if2 .taken))
 

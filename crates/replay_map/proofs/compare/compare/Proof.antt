@@ -2,7 +2,7 @@
 use native.Mathlib.Omega.{arith}
 use lib.ListN.{length-take}
 use borrow.Author.Needs.{needs}
-use Rattle.replay_map.proofs.Kept.{printed-long, printed-short}
+use Rattle.replay_map.proofs.Kept.{long-kept, long-printed, short-printed}
 use Rattle.replay_map.proofs.compare.compare.Statement.{statement}
 use Rattle.replay_map.proofs.compare.compare.Tie as tie
 
@@ -11,7 +11,13 @@ compare-spec =
     tie.close
     (tie.spec
     (λ c. simp length-take (omega arith))
-    (λ c κs. simp length-take (omega arith))
-    (λ c e. printed-long _ _ (c .before .before .if1 .taken) (c .compare-kept .ensures e))
+    (λ c. search needs)
+    (λ c. search needs)
+    (λ c. search needs)
+    (λ c κs. long-kept (c .before .before .before .before .before .args .input .now) (c .before .before .if1 .taken))
+    (λ c e. long-printed _ (c .before .before .before .if1 .taken) _ (c .compare-kept .ensures e))
+    (λ c. search needs)
+    (λ c. search needs)
+    (λ c. search needs)
     (λ c κs. search needs)
-    (λ c e. printed-short _ _ (c .before .if1 .left) (c .compare-kept2 .ensures e)))
+    (λ c e. short-printed _ _ (c .compare-kept2 .ensures e)))

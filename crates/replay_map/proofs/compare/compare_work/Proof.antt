@@ -8,7 +8,7 @@ returns : tie.Need-returns
 returns c e =
     let buffers = c .before .before .before .before .before .before .before .before in
     let w = buffers .before .before .before .before .before .before .before .before in
-    sym (w .work-on .ensures) ∙ c .compare-text .ensures e
+    sym (w .work-on .ensures .text) ∙ c .compare-text .ensures e
 
 pub compare-work-spec : {M : Type 1} → statement M
 compare-work-spec =
