@@ -14,8 +14,10 @@ use Rattle.shape.specs.Sizes.{coeffStorageLen}
 use Rattle.shape.specs.declared.answers.Refusal.{Refusal}
 use Rattle.shape.specs.declared.answers.Refusal.the-variants.{NoSuchLine}
 use Rattle.shape.proofs.Accepted.{refusal-suc, refused-append, refusal-append, passed-append, both-passed, storage-is}
-use Rattle.shape.proofs.Checks.{check-fails, check-passes, check-passed, length-passes}
-use Rattle.evaluation.specs.Place.{placeChecks, PlaceFound, PlaceTotal}
+use Rattle.shape.specs.Outcome.{Condition, refuseUnless}
+use Rattle.shape.proofs.Checks.{check-fails, check-passes, length-passes}
+use Rattle.shape.proofs.Outcome.{Tests, test}
+use Rattle.evaluation.specs.Place.{placeChecks, PlaceFound}
 
 -- ---- the answer, by its checks
 
@@ -67,14 +69,6 @@ module _ (map : List Check) (count a : ℕ) (coordinate : List Check) where
     pub place-axis : a < count → firstRefusal (placeChecks map count a coordinate) ≡ firstRefusal coordinate
     place-axis h = after-map ∙ check-passes coordinate 7 (not (ltb a count)) (rw (lt-ltb a count h))
 
-pub place-total : PlaceTotal
-place-total map pos count a coordinate = (there, back)
-  where
-    there : firstRefusal (placeChecks map count a coordinate) ≡ 0 → (firstRefusal map ≡ 0) × (a < count) × (firstRefusal coordinate ≡ 0)
-    there e =
-        let w = both-passed map (refuse 7 (not (ltb a count)) ∷ coordinate) pos e in
-        let v = check-passed coordinate 7 (not (ltb a count)) (omega arith) (w .1) in
-        (w .0, ltb-true a count (not-false (ltb a count) (v .0)), v .1)
-
-    back : (firstRefusal map ≡ 0) × (a < count) × (firstRefusal coordinate ≡ 0) → firstRefusal (placeChecks map count a coordinate) ≡ 0
-    back w = place-axis map count a coordinate pos (w .0) (w .1) ∙ w .2
+-- the axis, among the tests of the conditions of the call
+pub axis-test : {cs : List Check} {ds : List Condition} (count a : ℕ) → Tests cs ds → Tests (refuse 7 (not (ltb a count)) ∷ cs) (refuseUnless 7 (a < count) ∷ ds)
+axis-test count a rest = test refl ((λ e. ltb-true a count (not-false (ltb a count) e)), (λ h. rw (lt-ltb a count h))) (λ _. rest)

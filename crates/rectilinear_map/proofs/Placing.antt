@@ -18,11 +18,11 @@ use Rattle.shape.proofs.Accepted.{prefix-passed}
 use Rattle.knots.specs.Checks.{gridCheck, knotsCheck}
 use Rattle.knots.specs.declared.place.Loc.{Loc}
 use Rattle.evaluation.specs.Place.{placeChecks}
-use Rattle.evaluation.proofs.Placing.{place-refused, place-found, place-is, left-out, others-passed, storage-passes, place-checks, place-no-axis, place-axis, place-total}
+use Rattle.evaluation.proofs.Placing.{place-refused, place-found, place-is, left-out, others-passed, storage-passes, place-checks, place-no-axis, place-axis}
 use Rattle.rectilinear_blocks.specs.Eval.{mapChecks, mapAnswer}
 use Rattle.rectilinear_map.specs.declared.answers.Placed.{Placed}
 use Rattle.rectilinear_map.specs.declared.answers.Placed.the-variants as Placed
-use Rattle.rectilinear_map.specs.Place.{locAt, gridChecks, placedLoc, RectilinearPlaced, RectilinearPlaceTotal}
+use Rattle.rectilinear_map.specs.Place.{locAt, gridChecks, placedLoc, RectilinearPlaced}
 
 -- ---- the checks of a record with its grid
 
@@ -74,9 +74,3 @@ module _ (count : ℕ) (lens : List ℕ) (grid : List Float) (a : ℕ) (x : Floa
       -- on an axis of an accepted map the answer is the place
       pub placed-is : (r : Placed) → RectilinearPlaced count lens grid a x r → placedLoc r ≡ locAt count lens grid a x
       placed-is r w = place-is on-axis w
-
-pub rectilinear-place-total : RectilinearPlaceTotal
-unfolding firstRefusal
-rectilinear-place-total count lens grid a x r w =
-    let total = place-total (gridChecks count lens grid) (grid-numbered count lens grid) count a [] in
-    ((λ e. let t = total .0 (sym (w .answers) ∙ e) in (t .0, t .1)), (λ t. w .answers ∙ total .1 (t .0, t .1, refl)))

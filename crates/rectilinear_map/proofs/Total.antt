@@ -11,10 +11,11 @@ use Rattle.knots.specs.Joined.{total}
 use Rattle.rectilinear.proofs.Total.{knots-test}
 use Rattle.evaluation.specs.Spline.{oneAnswer}
 use Rattle.evaluation.proofs.Total.{evaluation-total, one-accepted}
+use Rattle.evaluation.proofs.Placing.{axis-test}
 use Rattle.rectilinear_blocks.specs.Map.{RectilinearMap}
 use Rattle.rectilinear_blocks.specs.Eval.{gridAnswer, mapChecks, mapAnswer, rectilinear}
 use Rattle.rectilinear_blocks.specs.Sound.{Sound}
-use Rattle.rectilinear_map.specs.Total.{mapConditions, HasPlace, GridTotal, MapTotal, RectilinearTotal}
+use Rattle.rectilinear_map.specs.Total.{mapConditions, HasPlace, GridTotal, MapTotal, RectilinearTotal, PlaceTotal}
 use Rattle.rectilinear_map.proofs.Checks.{map-numbered, map-sound}
 
 pub map-tests : (count : ℕ) (lens : List ℕ) (grid : List Float) (coefs : ℕ) → length lens ≡ 4 → Tests (mapChecks count lens grid coefs) (mapConditions count lens grid coefs)
@@ -31,6 +32,14 @@ grid-total count lens grid four = Outcome.total (shape-test count lens four (λ 
 pub map-total : MapTotal
 unfolding mapAnswer
 map-total count lens grid coefs four = Outcome.total (map-tests count lens grid coefs four)
+
+pub place-total : PlaceTotal
+place-total count lens grid a four =
+    Outcome.total
+    (shape-test count lens four (λ u.
+    length-test (total (take count lens)) (length grid) (λ _.
+    knots-test count lens grid four u (λ _.
+    axis-test count a none))))
 
 pub rectilinear-total : RectilinearTotal
 rectilinear-total f m grid coefs four =

@@ -1,12 +1,10 @@
 -- The place of a coordinate x on axis a of a rectilinear map, and what `place` answers. Assumes nothing.
-use mathlib.Core.Path.{_≡_}
-use mathlib.Core.Logic.{_↔_}
 use mathlib.Core.List.{List, [], _++_}
-use Prim.Native.Nat.{ℕ, _<_}
+use Prim.Native.Nat.{ℕ}
 use lib.ListN.{take}
 use lib.Ieee.{Float}
 use Rattle.shape.specs.Refusal.{refusalNumber}
-use Rattle.shape.specs.Checks.{Check, firstRefusal, shapeChecks}
+use Rattle.shape.specs.Checks.{Check, shapeChecks}
 use Rattle.multibspline.specs.declared.saturation.Saturation.the-variants.{None}
 use Rattle.knots.specs.Joined.{knotsOf}
 use Rattle.knots.specs.Checks.{gridCheck, knotsCheck}
@@ -38,10 +36,8 @@ placedLoc (At place) = place
 placedLoc (Refused refusal) = noPlace
 
 -- every coordinate has a place
-abbrev pub RectilinearPlaced : ℕ → List ℕ → List Float → ℕ → Float → Placed → Type 0
-RectilinearPlaced count lens grid a x r = PlaceFound (placeChecks (gridChecks count lens grid) count a []) (locAt count lens grid a x) noPlace (placedNumber r) (placedLoc r)
+abbrev pub rectilinearPlaceChecks : ℕ → List ℕ → List Float → ℕ → List Check
+rectilinearPlaceChecks count lens grid a = placeChecks (gridChecks count lens grid) count a []
 
--- demand 1: it is accepted exactly where the record and the grid are, and the map has the axis
-abbrev pub RectilinearPlaceTotal : Type 0
-RectilinearPlaceTotal = (count : ℕ) (lens : List ℕ) (grid : List Float) (a : ℕ) (x : Float) (r : Placed) → RectilinearPlaced count lens grid a x r
-    → (placedNumber r ≡ 0) ↔ ((firstRefusal (gridChecks count lens grid) ≡ 0) × (a < count))
+abbrev pub RectilinearPlaced : ℕ → List ℕ → List Float → ℕ → Float → Placed → Type 0
+RectilinearPlaced count lens grid a x r = PlaceFound (rectilinearPlaceChecks count lens grid a) (locAt count lens grid a x) noPlace (placedNumber r) (placedLoc r)

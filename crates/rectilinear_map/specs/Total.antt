@@ -2,15 +2,17 @@
 -- Assumes nothing.
 use mathlib.Core.Path.{_≡_}
 use mathlib.Core.List.{List, [], _∷_, _++_}
-use Prim.Native.Nat.{ℕ}
+use Prim.Native.Nat.{ℕ, _<_}
 use lib.ListN.{length, take}
 use lib.Ieee.{Float, Format}
 use Rattle.shape.specs.Shape.{size}
-use Rattle.shape.specs.Outcome.{Condition, Total, shapeConditions, lengthCondition}
+use Rattle.shape.specs.Checks.{firstRefusal}
+use Rattle.shape.specs.Outcome.{Condition, refuseUnless, Total, shapeConditions, lengthCondition}
 use Rattle.rectilinear.specs.Total.{gridCondition, knotsCondition}
 use Rattle.evaluation.specs.Total.{EvaluationTotal}
 use Rattle.rectilinear_blocks.specs.Map.{RectilinearMap}
 use Rattle.rectilinear_blocks.specs.Eval.{gridAnswer, mapAnswer, rectilinear}
+use Rattle.rectilinear_map.specs.Place.{rectilinearPlaceChecks}
 
 -- of a map: the shape, the joined grid, the coefficients, the knots
 abbrev pub mapConditions : ℕ → List ℕ → List Float → ℕ → List Condition
@@ -35,3 +37,13 @@ MapTotal = (count : ℕ) (lens : List ℕ) (grid : List Float) (coefs : ℕ) →
 abbrev pub RectilinearTotal : Type 1
 RectilinearTotal = (f : Format) (m : RectilinearMap) (grid coefs : List Float) → length (m .lens) ≡ 4
     → EvaluationTotal (rectilinear f m grid coefs) (mapConditions (m .count) (m .lens) grid (length coefs)) HasPlace
+
+-- the place of a coordinate on an axis: the shape, the joined grid, the knots, the axis
+abbrev pub PlaceTotal : Type 1
+PlaceTotal = (count : ℕ) (lens : List ℕ) (grid : List Float) (a : ℕ) → length lens ≡ 4
+    → Total (firstRefusal (rectilinearPlaceChecks count lens grid a)) (
+    shapeConditions count lens
+    ++ (gridCondition count lens grid
+    ∷ knotsCondition count lens grid
+    ∷ refuseUnless 7 (a < count)
+    ∷ []))

@@ -1,6 +1,5 @@
 -- The checks of a regular map's record, and what `place` answers, outcome by outcome. Assumes nothing.
 use mathlib.Core.Path.{_≡_, refl, sym, ap, _∙_}
-use mathlib.Core.Logic.{_≢_, _↔_}
 use mathlib.Core.Bool.{cond}
 use mathlib.Core.List.{List, [], _∷_}
 use Prim.Native.Nat.{ℕ, _≤_, _<_}
@@ -19,12 +18,12 @@ use Rattle.multibspline.specs.declared.saturation.Saturation.{Saturation}
 use Rattle.regular_weights.specs.declared.place.Loc.{Loc}
 use Rattle.regular_weights.specs.declared.place.Loc.the-variants.{At, Unrepresentable}
 use Rattle.evaluation.specs.Place.{placeChecks}
-use Rattle.evaluation.proofs.Placing.{place-refused, place-found, left-out, others-passed, storage-passes, place-checks, place-no-axis, place-axis, place-total}
+use Rattle.evaluation.proofs.Placing.{place-refused, place-found, left-out, others-passed, storage-passes, place-checks, place-no-axis, place-axis}
 use Rattle.regular_blocks.specs.Checks.{anyStepBad, mapChecks, mapAnswer}
 use Rattle.regular_map.specs.declared.answers.Placed.{Placed}
 use Rattle.regular_map.specs.declared.answers.Placed.the-variants as Placed
 use Rattle.regular_blocks.specs.Eval.{isUnrepresentable}
-use Rattle.regular_map.specs.Place.{locAt, recordChecks, placedNumber, placedLoc, RegularPlaced, RegularPlaceTotal}
+use Rattle.regular_map.specs.Place.{locAt, recordChecks, placedLoc, RegularPlaced}
 
 -- ---- the checks of a record
 
@@ -82,22 +81,3 @@ module _ (f : Format) (count : ℕ) (lens : List ℕ) (starts steps : List Float
           go : (loc : Loc) → locAt f lens starts steps a x ≡ loc → placedLoc r ≡ locAt f lens starts steps a x
           go (At sat origin) e = w .finds ∙ rw (on-axis e)
           go Unrepresentable e = w .finds ∙ rw (on-axis e, e)
-
-pub regular-place-total : RegularPlaceTotal
-regular-place-total f count lens starts steps a x r w = (there, back)
-  where
-    total : (firstRefusal (placeChecks (recordChecks count lens steps) count a (refuse 6 (isUnrepresentable (locAt f lens starts steps a x)) ∷ [])) ≡ 0)
-        ↔ ((firstRefusal (recordChecks count lens steps) ≡ 0) × (a < count) × (firstRefusal (refuse 6 (isUnrepresentable (locAt f lens starts steps a x)) ∷ []) ≡ 0))
-    total = place-total (recordChecks count lens steps) (record-numbered count lens steps) count a (refuse 6 (isUnrepresentable (locAt f lens starts steps a x)) ∷ [])
-
-    there : placedNumber r ≡ 0 → (firstRefusal (recordChecks count lens steps) ≡ 0) × (a < count) × (locAt f lens starts steps a x ≢ Unrepresentable)
-    there e =
-        let t = total .0 (sym (w .answers) ∙ e) in
-        (t .0, t .1, (λ bad. let z : _≡_ {A = ℕ} 6 0 = sym (cell f count lens starts steps a x bad) ∙ t .2 in omega arith))
-
-    go : (loc : Loc) → locAt f lens starts steps a x ≡ loc → locAt f lens starts steps a x ≢ Unrepresentable → firstRefusal (refuse 6 (isUnrepresentable (locAt f lens starts steps a x)) ∷ []) ≡ 0
-    go (At sat origin) e good = cell f count lens starts steps a x e
-    go Unrepresentable e good = absurd (good e)
-
-    back : (firstRefusal (recordChecks count lens steps) ≡ 0) × (a < count) × (locAt f lens starts steps a x ≢ Unrepresentable) → placedNumber r ≡ 0
-    back t = w .answers ∙ total .1 (t .0, t .1, go (locAt f lens starts steps a x) refl (t .2))

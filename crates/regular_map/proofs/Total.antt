@@ -24,10 +24,12 @@ use Rattle.regular_weights.specs.declared.place.Loc.{Loc}
 use Rattle.regular_weights.specs.declared.place.Loc.the-variants as Loc
 use Rattle.evaluation.specs.Spline.{oneAnswer}
 use Rattle.evaluation.proofs.Total.{evaluation-total, one-accepted}
+use Rattle.evaluation.proofs.Placing.{axis-test}
 use Rattle.regular_blocks.specs.Map.{RegularMap}
 use Rattle.regular_blocks.specs.Eval.{isUnrepresentable, locOn, noPlaceOn, refuses}
 use Rattle.regular_blocks.specs.Checks.{anyStepBad, mapChecks, mapAnswer, fromValuesAnswer, regular}
-use Rattle.regular_map.specs.Total.{stepsCondition, Representable, mapConditions, MapTotal, FromValuesTotal, RegularTotal}
+use Rattle.regular_map.specs.Place.{locAt}
+use Rattle.regular_map.specs.Total.{stepsCondition, Representable, mapConditions, MapTotal, FromValuesTotal, RegularTotal, PlaceTotal}
 use Rattle.regular_map.proofs.Steps.{map-numbered}
 
 -- ---- the steps
@@ -77,12 +79,21 @@ placed : (l : Loc) → l ≢ Loc.Unrepresentable → isUnrepresentable l ≡ fal
 placed (Loc.At sat origin) h = refl
 placed Loc.Unrepresentable h = absurd (h refl)
 
+has-place : (l : Loc) → (isUnrepresentable l ≡ false) ↔ (l ≢ Loc.Unrepresentable)
+has-place l = ((λ e bad. apart (isUnrepresentable l) (rw bad) e), placed l)
+
+pub place-total : PlaceTotal
+place-total f count lens starts steps a x four four′ =
+    total
+    (shape-test count lens four (λ u.
+    steps-test count steps (omega (arith, u .at-most-four)) (axis-test count a (test refl (has-place (locAt f lens starts steps a x)) (λ _. none)))))
+
 module _ (f : Format) (m : RegularMap) (x : List Float) where
   pub representable : (refuses f m x ≡ false) ↔ Representable f m x
   unfolding refuses
   representable = (
-    (λ e a h bad. apart (noPlaceOn f m x a) (rw bad) (none-at (noPlaceOn f m x) (m .count) e a h)),
-    (λ h. any-none (noPlaceOn f m x) (m .count) (λ a k. placed (locOn f m x a) (h a k))),
+    (λ e a h. has-place (locOn f m x a) .0 (none-at (noPlaceOn f m x) (m .count) e a h)),
+    (λ h. any-none (noPlaceOn f m x) (m .count) (λ a k. has-place (locOn f m x a) .1 (h a k))),
   )
 
 -- ---- values and gradients

@@ -1,12 +1,10 @@
 -- The place of a coordinate x on axis a of a regular map, and what `place` answers. Assumes nothing.
-use mathlib.Core.Path.{_≡_}
-use mathlib.Core.Logic.{_≢_, _↔_}
 use mathlib.Core.List.{List, [], _∷_, _++_}
-use Prim.Native.Nat.{ℕ, _<_}
+use Prim.Native.Nat.{ℕ}
 use lib.ListN.{take, getD}
 use lib.Ieee.{Float, Format, nan}
 use Rattle.shape.specs.Refusal.{refusalNumber}
-use Rattle.shape.specs.Checks.{Check, refuse, firstRefusal, shapeChecks}
+use Rattle.shape.specs.Checks.{Check, refuse, shapeChecks}
 use Rattle.regular_weights.specs.Place.{getLoc}
 use Rattle.regular_weights.specs.declared.place.Loc.{Loc}
 use Rattle.regular_weights.specs.declared.place.Loc.the-variants.{At, Unrepresentable}
@@ -34,12 +32,8 @@ abbrev pub placedLoc : Placed → Loc
 placedLoc (Placed.At sat origin) = At sat origin
 placedLoc (Placed.Refused refusal) = Unrepresentable
 
-abbrev pub RegularPlaced : Format → ℕ → List ℕ → List Float → List Float → ℕ → Float → Placed → Type 0
-RegularPlaced f count lens starts steps a x r =
-    let loc = locAt f lens starts steps a x in
-    PlaceFound (placeChecks (recordChecks count lens steps) count a (refuse 6 (isUnrepresentable loc) ∷ [])) loc Unrepresentable (placedNumber r) (placedLoc r)
+abbrev pub regularPlaceChecks : Format → ℕ → List ℕ → List Float → List Float → ℕ → Float → List Check
+regularPlaceChecks f count lens starts steps a x = placeChecks (recordChecks count lens steps) count a (refuse 6 (isUnrepresentable (locAt f lens starts steps a x)) ∷ [])
 
--- demand 1: it is accepted exactly where the record is, the map has the axis, and the cell can be represented
-abbrev pub RegularPlaceTotal : Type 0
-RegularPlaceTotal = (f : Format) (count : ℕ) (lens : List ℕ) (starts steps : List Float) (a : ℕ) (x : Float) (r : Placed) → RegularPlaced f count lens starts steps a x r
-    → (placedNumber r ≡ 0) ↔ ((firstRefusal (recordChecks count lens steps) ≡ 0) × (a < count) × (locAt f lens starts steps a x ≢ Unrepresentable))
+abbrev pub RegularPlaced : Format → ℕ → List ℕ → List Float → List Float → ℕ → Float → Placed → Type 0
+RegularPlaced f count lens starts steps a x r = PlaceFound (regularPlaceChecks f count lens starts steps a x) (locAt f lens starts steps a x) Unrepresentable (placedNumber r) (placedLoc r)

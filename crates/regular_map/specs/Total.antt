@@ -7,6 +7,7 @@ use Prim.Native.Nat.{ℕ, _<_}
 use lib.ListN.{length, take, getD}
 use lib.Ieee.{Float, Format, nan, lt}
 use Rattle.shape.specs.Shape.{size}
+use Rattle.shape.specs.Checks.{firstRefusal}
 use Rattle.shape.specs.Outcome.{Condition, refuseUnless, Total, shapeConditions, lengthCondition}
 use Rattle.multibspline.specs.Numbers.{f0}
 use Rattle.regular.specs.Total.{fitConditions}
@@ -15,6 +16,7 @@ use Rattle.evaluation.specs.Total.{EvaluationTotal}
 use Rattle.regular_blocks.specs.Map.{RegularMap}
 use Rattle.regular_blocks.specs.Eval.{locOn}
 use Rattle.regular_blocks.specs.Checks.{mapAnswer, fromValuesAnswer, regular}
+use Rattle.regular_map.specs.Place.{locAt, regularPlaceChecks}
 
 -- every step in use is above zero
 abbrev pub stepsCondition : ℕ → List Float → Condition
@@ -42,3 +44,13 @@ FromValuesTotal = (count : ℕ) (lens : List ℕ) (steps : List Float) (samples 
 abbrev pub RegularTotal : Type 1
 RegularTotal = (f : Format) (m : RegularMap) (coefs : List Float) → length (m .lens) ≡ 4 → length (m .steps) ≡ 4
     → EvaluationTotal (regular f m coefs) (mapConditions (m .count) (m .lens) (m .steps) (length coefs)) (Representable f m)
+
+-- the place of a coordinate on an axis: the shape, the steps, the axis, a representable cell
+abbrev pub PlaceTotal : Type 1
+PlaceTotal = (f : Format) (count : ℕ) (lens : List ℕ) (starts steps : List Float) (a : ℕ) (x : Float) → length lens ≡ 4 → length steps ≡ 4
+    → Total (firstRefusal (regularPlaceChecks f count lens starts steps a x)) (
+    shapeConditions count lens
+    ++ (stepsCondition count steps
+    ∷ refuseUnless 7 (a < count)
+    ∷ refuseUnless 6 (locAt f lens starts steps a x ≢ Unrepresentable)
+    ∷ []))
