@@ -10,15 +10,15 @@ use lib.Ieee.{Float, binary64}
 use borrow.Author.Tests.{eq-eqb, ne-eqb}
 use Rattle.shape.specs.Refusal.{refusalNumber}
 use Rattle.shape.specs.declared.answers.Refusal.{Refusal}
-use Rattle.shape.specs.Checks.{firstRefusal, Positive}
-use Rattle.shape.proofs.Accepted.{refusal-suc, both-passed}
-use Rattle.shape.proofs.Checks.{length-passed}
+use Rattle.shape.specs.Checks.{firstRefusal}
+use Rattle.shape.proofs.Accepted.{refusal-suc}
 use Rattle.multibspline.specs.Numbers.{f0}
 use Rattle.evaluation.specs.Axes.{zeros, query}
-use Rattle.evaluation.specs.Spline.{Spline, oneAnswer, gradient, OneValue, OneGradient}
+use Rattle.evaluation.specs.Spline.{oneAnswer, gradient, OneValue, OneGradient}
 use Rattle.evaluation.specs.Records.{valuedNumber, valuedValue}
 use Rattle.evaluation.specs.declared.answers.Valued.{Valued}
 use Rattle.evaluation.specs.declared.answers.Valued.the-variants.{Value, Refused}
+use Rattle.evaluation.proofs.Total.{one-accepted}
 use Rattle.regular_blocks.specs.Map.{RegularMap}
 use Rattle.regular_blocks.specs.Checks.{regular}
 use Rattle.regular_map.specs.Place.{recordChecks}
@@ -81,20 +81,14 @@ module _ {s : Surface} {x : List Float} {number : ℕ} {value : Float} {outside 
       ap (take (s .spline .axes)) (r .the-gradient ∙ ap (λ (t : Bool). cond t (gradient (s .spline) (query (s .spline .axes) x 1 0)) zeros) (eq-eqb number 0 z))
 
 -- what an answered query says of the map, whose checks have passed, and of its length
-asked : (s : Spline) → Positive (s .checks) → (x : List Float) → oneAnswer s x ≡ 0 → (firstRefusal (s .checks) ≡ 0) × (length x ≡ s .axes)
-unfolding oneAnswer
-asked s pos x e =
-    let w = both-passed (s .checks) _ pos e in
-    (w .0, length-passed _ (s .axes) (length x) (w .1) .0)
-
 pub regular-asked : (m : RegularMap) (coefs x : List Float) (v : Valued) (value : Float) → OneValue (regular binary64 m coefs) x (valuedNumber v) (valuedValue v) → v ≡ Value value
     → (firstRefusal (recordChecks (m .count) (m .lens) (m .steps)) ≡ 0) × (length x ≡ m .count)
 regular-asked m coefs x v value h told =
-    let w = asked (regular binary64 m coefs) (Regular.map-numbered (m .count) (m .lens) (m .steps) (length coefs)) x (sym (h .answers) ∙ ap valuedNumber told) in
+    let w = one-accepted (regular binary64 m coefs) (Regular.map-numbered (m .count) (m .lens) (m .steps) (length coefs)) x (sym (h .answers) ∙ ap valuedNumber told) in
     (map-record (m .count) (m .lens) (m .steps) (length coefs) (w .0), w .1)
 
 pub rectilinear-asked : (m : RectilinearMap) (grid coefs x : List Float) (v : Valued) (value : Float) → OneValue (rectilinear binary64 m grid coefs) x (valuedNumber v) (valuedValue v) → v ≡ Value value
     → (firstRefusal (gridChecks (m .count) (m .lens) grid) ≡ 0) × (length x ≡ m .count)
 rectilinear-asked m grid coefs x v value h told =
-    let w = asked (rectilinear binary64 m grid coefs) (Rectilinear.map-numbered (m .count) (m .lens) grid (length coefs)) x (sym (h .answers) ∙ ap valuedNumber told) in
+    let w = one-accepted (rectilinear binary64 m grid coefs) (Rectilinear.map-numbered (m .count) (m .lens) grid (length coefs)) x (sym (h .answers) ∙ ap valuedNumber told) in
     (map-grid (m .count) (m .lens) grid (length coefs) (w .0), w .1)

@@ -11,7 +11,7 @@ use lib.Ieee.{Float, binary64, nan}
 use borrow.Author.Tests.{eq-eqb}
 use Rattle.shape.specs.Shape.{size, longest}
 use Rattle.shape.specs.Checks.{firstRefusal, shapeChecks, regularFitChecks}
-use Rattle.shape.specs.Fit.{Fitted}
+use Rattle.shape.specs.Fit.{Fitted, FitLeaves}
 use Rattle.shape.specs.declared.answers.Answer.the-variants.{Accepted}
 use Rattle.shape.proofs.Accepted.{usable-accepted, axes-are, storage-is, scratch-is}
 use Rattle.multibspline.specs.Numbers.{f0}
@@ -81,7 +81,7 @@ module _ (linear : Bool) (count : ℕ) (lens : List ℕ) (row samples coefs scra
 
     pub regular-made : (answer : ℕ) (handed : RegularMap) (coefs′ scratch′ left : List Float)
         → BuiltFrom (fromValuesAnswer count lens steps (length samples) (length coefs) (length scratch)) (Regular.made count lens starts steps linear) Regular.blank answer handed
-        → Fitted (firstRefusal (regularFitChecks count lens (length samples) (length coefs) (length scratch))) (regularFit binary64 (take count lens) samples) left coefs scratch (firstRefusal (regularFitChecks count lens (length samples) (length coefs) (length scratch))) coefs′ scratch′
+        → FitLeaves (firstRefusal (regularFitChecks count lens (length samples) (length coefs) (length scratch))) (regularFit binary64 (take count lens) samples) left coefs scratch coefs′ scratch′
         → MadeFrom (regularNumber (take count lens) row) (regularOf binary64 linear (take count lens) row samples) (regularRefused binary64 (take count lens) samples) answer (regularSurface binary64 handed coefs′)
     regular-made answer handed coefs′ scratch′ left b w = record {
       answers = b .answers ∙ number;
@@ -119,7 +119,7 @@ module _ (linear : Bool) (count : ℕ) (lens : List ℕ) (row samples coefs scra
       map =
           ap₂ (λ (m : RectilinearMap) (cs : List Float). rectilinearSurface binary64 m row cs)
           (b .map ∙ ap (λ (n : ℕ). cond (eqb n 0) (Rectilinear.made binary64 count lens row linear) Rectilinear.blank) (sym (b .answers)) ∙ ap (λ (m : RectilinearMap). cond (eqb answer 0) m Rectilinear.blank) rectilinear-is)
-          (w .coefficients)
+          (w .leaves .coefficients ∙ ap (λ (n : ℕ). cond (eqb n 0) (rectilinearFit binary64 row (take count lens) samples) coefs) (sym (w .answers)))
           ∙ by-answer₂ (eqb answer 0) (λ m cs. rectilinearSurface binary64 m row cs) _ _ _ _;
     }
 

@@ -3,20 +3,17 @@ use mathlib.Core.Path.{_≡_, refl}
 use mathlib.Core.List.{List}
 use Prim.Native.Nat.{ℕ}
 use lib.ListN.{length, take}
-use lib.Ieee.{Float, Format}
+use lib.Ieee.{Float}
 use Rattle.shape.specs.Shape.{size}
 use Rattle.shape.proofs.Outcome.{Tests, none, shape-test, length-test}
 use Rattle.shape.proofs.Outcome as Outcome
 use Rattle.knots.specs.Joined.{total}
 use Rattle.rectilinear.proofs.Total.{knots-test}
-use Rattle.evaluation.specs.Spline.{oneAnswer}
-use Rattle.evaluation.proofs.Total.{evaluation-total, one-accepted}
+use Rattle.evaluation.proofs.Total.{evaluation-total}
 use Rattle.evaluation.proofs.Placing.{axis-test}
-use Rattle.rectilinear_blocks.specs.Map.{RectilinearMap}
 use Rattle.rectilinear_blocks.specs.Eval.{gridAnswer, mapChecks, mapAnswer, rectilinear}
-use Rattle.rectilinear_blocks.specs.Sound.{Sound}
 use Rattle.rectilinear_map.specs.Total.{mapConditions, HasPlace, GridTotal, MapTotal, RectilinearTotal, PlaceTotal}
-use Rattle.rectilinear_map.proofs.Checks.{map-numbered, map-sound}
+use Rattle.rectilinear_map.proofs.Checks.{map-numbered}
 
 pub map-tests : (count : ℕ) (lens : List ℕ) (grid : List Float) (coefs : ℕ) → length lens ≡ 4 → Tests (mapChecks count lens grid coefs) (mapConditions count lens grid coefs)
 map-tests count lens grid coefs four =
@@ -45,11 +42,3 @@ pub rectilinear-total : RectilinearTotal
 rectilinear-total f m grid coefs four =
     evaluation-total (rectilinear f m grid coefs) (mapConditions (m .count) (m .lens) grid (length coefs)) HasPlace
     (map-tests (m .count) (m .lens) grid (length coefs) four) (map-numbered (m .count) (m .lens) grid (length coefs)) (λ x. ((λ _. tt), (λ _. refl)))
-
--- what an answered query has
-pub one-answered : (f : Format) (m : RectilinearMap) (grid coefs x : List Float) → length (m .lens) ≡ 4 → oneAnswer (rectilinear f m grid coefs) x ≡ 0
-    → Sound (m .count) (m .lens) grid (length coefs) × (length x ≡ m .count)
-unfolding mapAnswer
-one-answered f m grid coefs x four e =
-    let w = one-accepted (rectilinear f m grid coefs) (map-numbered (m .count) (m .lens) grid (length coefs)) x e in
-    (map-sound (m .count) (m .lens) grid (length coefs) four (w .0), w .1)

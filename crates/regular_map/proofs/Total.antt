@@ -13,17 +13,14 @@ use borrow.Author.Tests.{not-false}
 use Rattle.shape.specs.Shape.{size}
 use Rattle.shape.specs.Checks.{Check, refuse}
 use Rattle.shape.specs.Outcome.{Condition}
-use Rattle.shape.specs.Usable.{Usable}
 use Rattle.shape.proofs.Lengths.{or-false}
 use Rattle.shape.proofs.Below.{apart, none-at, any-none}
-use Rattle.shape.proofs.Accepted.{prefix-passed, usable}
 use Rattle.shape.proofs.Outcome.{Tests, none, test, total, append, shape-test, length-test}
 use Rattle.multibspline.specs.Numbers.{f0}
 use Rattle.regular.proofs.Total.{fit-tests}
 use Rattle.regular_weights.specs.declared.place.Loc.{Loc}
 use Rattle.regular_weights.specs.declared.place.Loc.the-variants as Loc
-use Rattle.evaluation.specs.Spline.{oneAnswer}
-use Rattle.evaluation.proofs.Total.{evaluation-total, one-accepted}
+use Rattle.evaluation.proofs.Total.{evaluation-total}
 use Rattle.evaluation.proofs.Placing.{axis-test}
 use Rattle.regular_blocks.specs.Map.{RegularMap}
 use Rattle.regular_blocks.specs.Eval.{isUnrepresentable, locOn, noPlaceOn, refuses}
@@ -102,9 +99,3 @@ pub regular-total : RegularTotal
 regular-total f m coefs four four′ =
     evaluation-total (regular f m coefs) (mapConditions (m .count) (m .lens) (m .steps) (length coefs)) (Representable f m)
     (map-tests (m .count) (m .lens) (m .steps) four four′ (length coefs)) (map-numbered (m .count) (m .lens) (m .steps) (length coefs)) (representable f m)
-
--- what an answered query has
-pub one-answered : (f : Format) (m : RegularMap) (coefs x : List Float) → length (m .lens) ≡ 4 → oneAnswer (regular f m coefs) x ≡ 0 → Usable (m .count) (m .lens) × (length x ≡ m .count)
-one-answered f m coefs x four e =
-    let w = one-accepted (regular f m coefs) (map-numbered (m .count) (m .lens) (m .steps) (length coefs)) x e in
-    (usable (m .count) (m .lens) four (prefix-passed _ _ (w .0)), w .1)
