@@ -65,12 +65,12 @@ fitChecks dims grid samples coefs scratch =
     })
 
 -- the fit, where its checks pass; then the steps are tested
-abbrev pub valuesAnswer : List ℕ → List Float → ℕ → ℕ → ℕ → ℕ
-valuesAnswer dims grid samples coefs scratch =
+abbrev pub gridFromValuesAnswer : List ℕ → List Float → ℕ → ℕ → ℕ → ℕ
+gridFromValuesAnswer dims grid samples coefs scratch =
     firstRefusal (fitChecks dims grid samples coefs scratch ++ refuse 5 (anyStepBad (take (length dims) (stepsOf dims grid))) ∷ [])
 
 pub record FromValues (f : Format) (dims : List ℕ) (grid samples coefs scratch : List Float) (answer : ℕ) (coefs′ scratch′ : List Float) : Type 0 where
-  pub answers : answer ≡ valuesAnswer dims grid (length samples) (length coefs) (length scratch)
+  pub answers : answer ≡ gridFromValuesAnswer dims grid (length samples) (length coefs) (length scratch)
   pub fits :
       FitLeaves
       (firstRefusal (fitChecks dims grid (length samples) (length coefs) (length scratch)))

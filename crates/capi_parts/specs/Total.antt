@@ -23,7 +23,7 @@ use Rattle.rectilinear_blocks.specs.Eval.{mapAnswer}
 use Rattle.rectilinear_map.specs.Total.{mapConditions, HasPlace}
 use Rattle.capi_parts.specs.Inputs.{lensOf}
 use Rattle.capi_parts.specs.Splines.{withSlopes}
-use Rattle.capi_parts.specs.Regular.{stepsOf, regularMap, regularChecks, regularSpline, valuesAnswer}
+use Rattle.capi_parts.specs.Regular.{stepsOf, regularMap, regularChecks, regularSpline, gridFromValuesAnswer}
 use Rattle.capi_parts.specs.Rectilinear.{rectilinearSpline}
 
 -- ---- the shape
@@ -66,7 +66,7 @@ pub record RegularTotal (dims : List ℕ) : Type 1 where
   pub check : (grid : List Float) (coefs : ℕ) → Total (firstRefusal (regularChecks dims grid coefs)) (regularConditions dims grid coefs)
   -- the fit, then the steps
   pub from-values : (grid : List Float) (samples coefs scratch : ℕ)
-      → Total (valuesAnswer dims grid samples coefs scratch) (
+      → Total (gridFromValuesAnswer dims grid samples coefs scratch) (
       shapeConditions (length dims) (lensOf dims)
       ++ (gridCondition dims grid
       ∷ lengthCondition (size (take (length dims) (lensOf dims))) coefs
