@@ -12,8 +12,8 @@ use Rattle.shape.specs.Checks.{Check, firstRefusal, limitChecks}
 use Rattle.evaluation.specs.Spline.{oneAnswer}
 use Rattle.knots.specs.Joined.{allRise}
 use Rattle.regular_blocks.specs.Checks.{anyStepBad}
-use Rattle.regular_map.specs.Map as Regular
-use Rattle.rectilinear_map.specs.Map as Rectilinear
+use Rattle.regular_map.specs.Records as Regular
+use Rattle.rectilinear_map.specs.Records as Rectilinear
 use Rattle.map_spline.specs.Surface.{regularSurface, rectilinearSurface, regularNumber, rectilinearNumber, askedNumber, surfaceOf}
 use Rattle.map_spline.specs.declared.build.Map.{Map}
 
