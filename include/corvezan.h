@@ -18,7 +18,7 @@
  *     4  CORVEZAN_SCRATCH_TOO_SMALL   scratch is shorter than twice the longest axis
  *     5  CORVEZAN_NOT_INCREASING      a knot not above the one before it, or a step not above zero (NaN is neither)
  *     6  CORVEZAN_UNREPRESENTABLE     a query on a regular map whose cell cannot be represented: NaN, an infinity,
- *                                     or further from the start than 2^63 steps
+ *                                     or 2^63 steps or more from the start
  *     7  CORVEZAN_NO_SUCH_LINE        no such axis, or no such line on it
  *     8  CORVEZAN_ALREADY_SOLVED      the line is solved already
  *     9  CORVEZAN_NOT_DUE             the line is not due yet: a line of a lower axis that crosses it is not solved
@@ -68,7 +68,8 @@
  * Behind each of these functions stands a theorem, checked by machine, that its answer and every cell of every buffer
  * that it writes are those of a definition: the text-book steps (Thomas' elimination, the B-spline recurrence), each
  * operation rounded as IEEE 754 says, for all inputs that keep to the three points above. docs/PROMISES.md names the
- * theorems. Every NaN counts as any other NaN: which of its bit patterns a result has is not promised.
+ * theorems, docs/DIFFERENCES.md the steps that depart from the text books. Every NaN counts as any other NaN: which of
+ * its bit patterns a result has is not promised.
  * Not proved: that the declarations in this header agree with the functions in the library (they are held to it by
  * the tests), and the compiler that made the archive.
  */
