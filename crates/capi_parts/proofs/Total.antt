@@ -20,6 +20,7 @@ use Rattle.rectilinear.proofs.Total as Rectilinear
 use Rattle.stepwise.proofs.Total as Steps
 use Rattle.regular_map.specs.Total.{Representable}
 use Rattle.regular_map.proofs.Total.{steps-test, representable}
+use Rattle.rectilinear_blocks.proofs.Figures.{answers-all}
 use Rattle.rectilinear_map.specs.Total.{mapConditions, HasPlace}
 use Rattle.rectilinear_map.proofs.Checks.{map-numbered}
 use Rattle.rectilinear_map.proofs.Total.{map-tests, map-total}
@@ -89,6 +90,6 @@ rectilinear-total dims grid = record {
   check = λ coefs. map-total (length dims) (lensOf dims) grid coefs (four-lens dims);
   spline = λ f linear coefs.
       spline-total (rectilinearSpline f dims grid linear coefs) (mapConditions (length dims) (lensOf dims) grid (length coefs)) HasPlace
-      (map-tests (length dims) (lensOf dims) grid (length coefs) (four-lens dims)) (map-numbered (length dims) (lensOf dims) grid (length coefs)) (λ x. ((λ _. tt), (λ _. refl)));
+      (map-tests (length dims) (lensOf dims) grid (length coefs) (four-lens dims)) (map-numbered (length dims) (lensOf dims) grid (length coefs)) (λ x. ((λ _. tt), (λ _. answers-all f _ grid x)));
   steps = Steps.rectilinear-total (length dims) (lensOf dims) grid (four-lens dims);
 }

@@ -10,9 +10,10 @@ use Rattle.shape.specs.Shape.{size}
 use Rattle.shape.specs.Checks.{Check, refuse, firstRefusal, inOrder, shapeChecks, lengthCheck, scratchCheck}
 use Rattle.shape.specs.Fit.{FitLeaves}
 use Rattle.evaluation.specs.Spline.{Spline}
+use Rattle.evaluation.specs.ByAxis.{splineOf}
 use Rattle.regular.specs.Fit.{regularFit, regularScratch}
 use Rattle.regular_blocks.specs.Map.{RegularMap}
-use Rattle.regular_blocks.specs.Eval.{refuses, valueAt, partAt}
+use Rattle.regular_blocks.specs.Eval.{regularAxes}
 use Rattle.regular_blocks.specs.Checks.{anyStepBad}
 use Rattle.capi_parts.specs.Inputs.{lensOf, fourFrom}
 
@@ -39,13 +40,7 @@ regularChecks dims grid coefs =
     gridReadyChecks dims grid ++ (lengthCheck (size (take (length dims) (lensOf dims))) coefs ++ refuse 5 (anyStepBad (take (length dims) (stepsOf dims grid))) ∷ [])
 
 abbrev pub regularSpline : Format → List ℕ → List Float → Bool → List Float → Spline
-regularSpline f dims grid linear coeffs = record {
-  axes = length dims;
-  checks = regularChecks dims grid (length coeffs);
-  refuses = refuses f (regularMap dims grid linear);
-  value = valueAt f (regularMap dims grid linear) coeffs;
-  part = partAt f (regularMap dims grid linear) coeffs;
-}
+regularSpline f dims grid linear coeffs = splineOf f (regularAxes f (regularMap dims grid linear)) (regularChecks dims grid (length coeffs)) coeffs
 
 -- ---- the fit with a grid: its checks, with that of the grid's length in its place
 

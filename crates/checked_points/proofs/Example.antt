@@ -14,7 +14,8 @@ use Rattle.evaluation.specs.Spline.{oneAnswer}
 use Rattle.regular_weights.specs.Place.{getLoc, locOf, pastOrigin}
 use Rattle.regular_weights.specs.Weights.{cubicBsplineWeights, cubicBsplineWeightDerivatives, interpWeights, spanDerivatives, scaled, interpWeightDerivatives}
 use Rattle.regular_map.specs.Map.{made}
-use Rattle.regular_blocks.specs.Eval.{locOn, weightsOn, slopesOn, valueAt, partAt, refuses}
+use Rattle.evaluation.specs.ByAxis.{valueAt, partAt, refuses}
+use Rattle.regular_blocks.specs.Eval.{locOn, weightsOn, slopesOn}
 use Rattle.regular_blocks.specs.Checks.{anyStepBad}
 use Rattle.float_text.specs.Digits.{digitOf, letterOf, numberFrom, digitsOf}
 use Rattle.float_text.specs.Bits.{bitsIn, bitsText, floatIn, floatText}

@@ -27,7 +27,8 @@ use Rattle.regular_weights.specs.declared.place.Loc as Cells
 use Rattle.regular_weights.specs.declared.place.Loc.the-variants as Cell
 use Rattle.regular.specs.Fit.{regularFit}
 use Rattle.regular_blocks.specs.Map.{RegularMap}
-use Rattle.regular_blocks.specs.Eval.{locOn, weightsOn, slopesOn, partAt}
+use Rattle.evaluation.specs.ByAxis.{partAt}
+use Rattle.regular_blocks.specs.Eval.{locOn, weightsOn, slopesOn, regularAxes}
 use Rattle.knots.specs.Knots.{countBelow}
 use Rattle.knots.specs.Place as Rectilinear
 use Rattle.knots.specs.Place.{loc}
@@ -63,7 +64,7 @@ four : Bool → RegularMap
 four linear = record { count = 1; lens = 4 ∷ 0 ∷ 0 ∷ 0 ∷ []; starts = f0 ∷ f0 ∷ f0 ∷ f0 ∷ []; steps = f1 ∷ f0 ∷ f0 ∷ f0 ∷ []; linear = linear }
 
 slope : Bool → Float → Float
-slope linear x = partAt binary64 (four linear) (f0 ∷ f1 ∷ f2 ∷ f3 ∷ []) (x ∷ f0 ∷ f0 ∷ f0 ∷ []) 0
+slope linear x = partAt binary64 (regularAxes binary64 (four linear)) (f0 ∷ f1 ∷ f2 ∷ f3 ∷ []) (x ∷ f0 ∷ f0 ∷ f0 ∷ []) 0
 
 -- a call of k with just enough scratch, and lines of axis 0 solved
 call : ℕ → ℕ → Fed

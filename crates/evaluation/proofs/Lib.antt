@@ -12,3 +12,4 @@ pub mod Rows
 pub mod Weighed
 pub mod Singles
 pub mod InUse
+pub mod ByAxis

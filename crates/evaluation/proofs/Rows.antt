@@ -2,19 +2,21 @@
 --     row       the row of each entry
 --     base, m   the number of the first, and how many there are
 --     rows₀     what is written into, before the loop
-use mathlib.Core.Path.{_≡_, refl, _∙_}
+use mathlib.Core.Path.{_≡_, refl, ap, _∙_}
 use mathlib.Core.Logic.{inl, inr}
 use mathlib.Core.List.{List}
-use Prim.Native.Nat.{ℕ, _+_, _*_, _≤_, _<_}
-use native.Mathlib.Nat.{eq-or-lt-of-le}
+use Prim.Native.Nat.{ℕ, suc, _+_, _*_, _≤_, _<_}
+use native.Mathlib.Nat.{eq-or-lt-of-le, mul-le-mul-left, mul-suc}
 use native.Mathlib.Omega.{arith}
-use lib.ListN.{length}
-use lib.Ieee.{Float}
-use Rattle.evaluation.specs.Block.{withRow, RowsPut}
+use native.Mathlib.Numerals.{add-one}
+use lib.ListN.{length, getD, drop}
+use lib.Seq.{getD-drop}
+use lib.Ieee.{Float, nan}
+use Rattle.evaluation.specs.Block.{rowAt, withRow, RowsPut, AxesPut, Weighed}
 use Rattle.evaluation.proofs.Blocks.{row-length, row-same, row-other}
 
 rows-start : {row : ℕ → List Float} {base : ℕ} {rows : List Float} → RowsPut row base 0 rows rows
-rows-start = record { each = λ k h. absurd (let q : ⊥ = omega arith in q); before = λ j h. refl }
+rows-start = record { each = λ k h. absurd (let q : ⊥ = omega arith in q); before = λ j h. refl; after = λ j h. refl }
 
 rows-more : {row : ℕ → List Float} {base i : ℕ} {old new new′ : List Float} (r : List Float) → RowsPut row base i old new → length r ≡ 4 → 4 * (base + i) + 4 ≤ length new → r ≡ row i → new′ ≡ withRow new (base + i) r → RowsPut row base (i + 1) old new′
 rows-more {row} {base} {i} {old} {new} r w four fits e put =
@@ -24,6 +26,7 @@ rows-more {row} {base} {i} {old} {new} r w four fits e put =
         | inr q ↦ row-other new (base + i) r (base + k) (λ z. let y : ⊥ = omega arith in y) ∙ w .each k q
       ]);
       before = λ j l. rw put (row-other new (base + i) r j (λ z. let y : ⊥ = omega arith in y) ∙ w .before j l);
+      after = λ j l. rw put (row-other new (base + i) r j (λ z. let y : ⊥ = omega arith in y) ∙ w .after j (omega arith));
     }
 
 module _ (row : ℕ → List Float) (base m : ℕ) (rows₀ : List Float) where
@@ -50,3 +53,41 @@ module _ (row : ℕ → List Float) (base m : ℕ) (rows₀ : List Float) where
 
   pub rows-done : {rows : List Float} {k : ℕ} → RowsSoFar rows k → m ≤ k → RowsPut row base m rows₀ rows
   rows-done {rows} {k} w h = let e : k ≡ m = omega (arith, w .most) in rw e at (w .so-far)
+
+-- ---- axis after axis, each with room for `cap` rows
+
+module _ (row : ℕ → ℕ → List Float) (cap base m : ℕ) (old : List Float) where
+  pub axes-none : AxesPut row cap base m 0 old old
+  axes-none = record { each = λ b k h l. absurd (let q : ⊥ = omega arith in q); before = λ j h. refl; after = λ j h. refl }
+
+  -- the rows of one axis more, from row number `at` on
+  pub axes-next : {a at : ℕ} {mid new : List Float} → m ≤ cap → at ≡ base + cap * a → AxesPut row cap base m a old mid → RowsPut (row a) at m mid new → AxesPut row cap base m (a + 1) old new
+  axes-next {a} {at} few e w p =
+      record {
+        each = λ b k h l. elim (eq-or-lt-of-le (let q : b ≤ a = omega arith in q)) [
+          | inl q ↦ rw (q, ← e) (p .each k l)
+          | inr q ↦ let below : cap * suc b ≤ cap * a = mul-le-mul-left cap q in p .before (base + cap * b + k) (omega (arith, below)) ∙ w .each b k q l
+        ];
+        before = λ j h. p .before j (omega arith) ∙ w .before j h;
+        after = λ j h. let wide : cap * (a + 1) ≡ cap * a + cap = rw add-one (mul-suc cap a) in p .after j (omega (arith, wide)) ∙ w .after j (omega (arith, wide));
+      }
+
+  pub axes-done : {a count : ℕ} {new : List Float} → AxesPut row cap base m a old new → a ≤ count → count ≤ a → AxesPut row cap base m count old new
+  axes-done {a} {count} w h g = let e : a ≡ count = omega arith in rw e at w
+
+-- those from row 0 on
+pub axes-weighed : {row : ℕ → ℕ → List Float} {cap m a : ℕ} {old new : List Float} → AxesPut row cap 0 m a old new → Weighed row cap m a new
+axes-weighed {cap = cap} w = record { at = λ b k h l. let e : 0 + cap * b + k ≡ cap * b + k = omega arith in rw e at (w .each b k h l) }
+
+-- ---- a part of the rows, from row number r on
+
+pub row-part : (rows : List Float) (at r j : ℕ) → at ≡ 4 * r → rowAt (drop at rows) j ≡ rowAt rows (r + j)
+unfolding rowAt
+row-part rows at r j e =
+    let cell : (q : ℕ) {i : ℕ} → at + q ≡ i → getD (drop at rows) q nan ≡ getD rows i nan = λ q same. getD-drop at rows q nan ∙ ap (λ (z : ℕ). getD rows z nan) same in
+    rw (cell (4 * j) (omega arith), cell (4 * j + 1) (omega arith), cell (4 * j + 2) (omega arith), cell (4 * j + 3) (omega arith))
+
+-- the first cell of a row
+pub row-first : (rows rows′ : List Float) (j : ℕ) → rowAt rows j ≡ rowAt rows′ j → getD rows (4 * j) nan ≡ getD rows′ (4 * j) nan
+unfolding rowAt
+row-first rows rows′ j e = ap (λ (r : List Float). getD r 0 nan) e

@@ -1,5 +1,6 @@
 pub mod Axes
 pub mod Spline
+pub mod ByAxis
 pub mod Batch
 pub mod Total
 pub mod Built

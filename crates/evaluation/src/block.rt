@@ -4,6 +4,14 @@ ghost use Prim.Native.Nat.{ℕ, _+_, _*_, _≤_, _<_};
 ghost use lib.ListN.{length, getD};
 ghost use Rattle.evaluation.specs.Block.{rowAt, withRow};
 
+// Queries of a batch that are evaluated together: m of them, from query `from` of n on, in buffers that hold up to `cap`.
+pub struct Span {
+    pub n: usize,
+    pub from: usize,
+    pub cap: usize,
+    pub m: usize,
+}
+
 // Row number j.
 pub fn row(rows: &[f64], j: usize) -> [f64; 4]
     requires { ⌜ 4 * j + 4 ≤ length (now rows) ⌝ }

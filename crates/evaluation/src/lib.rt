@@ -8,6 +8,7 @@ mod strides;
 pub use answers::Gradient;
 pub use answers::Valued;
 pub use answers::refused_gradient;
+pub use block::Span;
 pub use block::block_size;
 pub use block::put_row;
 pub use block::row;

@@ -6,10 +6,11 @@ ghost use lib.ListN.{length, take};
 ghost use lib.Ieee.{binary64};
 ghost use Rattle.shape.specs.Shape.{size};
 ghost use Rattle.evaluation.specs.Axes.{query, parts};
+ghost use Rattle.evaluation.specs.ByAxis.{valueAt, partAt};
 ghost use Rattle.evaluation.specs.Batch.{badAt, valueStep, gradientStep, Entries};
 ghost use Rattle.rectilinear_blocks.specs.Map.{RectilinearMap};
 ghost use Rattle.rectilinear_blocks.specs.Records.{ghosts};
-ghost use Rattle.rectilinear_blocks.specs.Eval.{valueAt, partAt, rectilinear};
+ghost use Rattle.rectilinear_blocks.specs.Eval.{rectilinearAxes, rectilinear};
 ghost use Rattle.rectilinear_blocks.specs.Sound.{Sound, Laid};
 use evaluation::block_size;
 use evaluation::strides_of;
@@ -201,7 +202,7 @@ pub fn value_at(
     x: &[f64],
 ) -> f64
     requires { ⌜ Sound count dims (now grid) (length (now coeffs)) × (count ≤ length (now x)) ⌝ }
-    ensures { λ r. ⌜ r ≡ valueAt binary64 (record { count = count; lens = dims; low = ghosts low; high = ghosts high; linear = linear }) (now (grid .entry)) (now (coeffs .entry)) (query count (now (x .entry)) 1 0) ⌝ }
+    ensures { λ r. ⌜ r ≡ valueAt binary64 (rectilinearAxes binary64 (record { count = count; lens = dims; low = ghosts low; high = ghosts high; linear = linear }) (now (grid .entry))) (now (coeffs .entry)) (query count (now (x .entry)) 1 0) ⌝ }
 {
     let strides = strides_of(count, dims);
     let mut counts = [0usize; 1];
@@ -242,7 +243,7 @@ pub fn gradient_at(
     x: &[f64],
 ) -> [f64; 4]
     requires { ⌜ Sound count dims (now grid) (length (now coeffs)) × (count ≤ length (now x)) ⌝ }
-    ensures { λ r. ⌜ r ≡ parts count (partAt binary64 (record { count = count; lens = dims; low = ghosts low; high = ghosts high; linear = linear }) (now (grid .entry)) (now (coeffs .entry)) (query count (now (x .entry)) 1 0)) ⌝ }
+    ensures { λ r. ⌜ r ≡ parts count (partAt binary64 (rectilinearAxes binary64 (record { count = count; lens = dims; low = ghosts low; high = ghosts high; linear = linear }) (now (grid .entry))) (now (coeffs .entry)) (query count (now (x .entry)) 1 0)) ⌝ }
 {
     let strides = strides_of(count, dims);
     let mut counts = [0usize; 1];

@@ -59,7 +59,7 @@ firsts-none count lens grid xs n start w = record { each = λ k l. w k l ∙ sym
 -- ---- rows
 
 rows-same : {row row′ : ℕ → List Float} {base m : ℕ} {old new : List Float} → ((k : ℕ) → row k ≡ row′ k) → RowsPut row base m old new → RowsPut row′ base m old new
-rows-same e w = record { each = λ k l. w .each k l ∙ e k; before = w .before }
+rows-same e w = record { each = λ k l. w .each k l ∙ e k; before = w .before; after = w .after }
 
 module _ (f : Format) (map : RectilinearMap) (grid xs : List Float) (n start a : ℕ) (h : a < map .count) (few : map .count ≤ 4) {ks : List Float} (part : ks ≡ knotsOf grid (take (map .count) (map .lens)) a) {low high : List Float} (el : low ≡ getD (map .low) a []) (eh : high ≡ getD (map .high) a []) {base m : ℕ} {old new : List Float} where
   pub weights-rows : RowsPut (weightsAt f ks low high (map .linear) xs (a * n + start)) base m old new → RowsPut (weightsFor f map grid xs n start a) base m old new

@@ -5,7 +5,7 @@ use lib.ListN.{take}
 use lib.Ieee.{Float, Format}
 use Rattle.evaluation.specs.Axes.{query, firstOver}
 use Rattle.rectilinear_blocks.specs.Map.{RectilinearMap}
-use Rattle.rectilinear_blocks.specs.Eval.{knotsOn, originOn, weightsOn, slopesOn}
+use Rattle.rectilinear_blocks.specs.Eval.{knotsOn, locOn, weightsOn, slopesOn}
 use Rattle.rectilinear_axis.specs.Axis.{countAt}
 
 -- m queries from `start` on are among the n, and all coordinates are there
@@ -20,7 +20,7 @@ module _ (count : ℕ) (lens : List ℕ) (grid xs : List Float) (n start a k : �
   countOn = countAt (knotsOn count lens grid a) xs (a * n + start) k
 
   abbrev pub firstAt : ℕ
-  firstAt = firstOver (take count lens) (originOn count lens grid (query count xs n (start + k))) a
+  firstAt = firstOver (take count lens) (λ b. locOn count lens grid (query count xs n (start + k)) b .origin) a
 
 -- its weights on axis a, and their slopes
 module _ (f : Format) (m : RectilinearMap) (grid xs : List Float) (n start a k : ℕ) where

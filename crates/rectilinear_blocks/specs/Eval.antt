@@ -1,5 +1,5 @@
--- The value and the gradient of a rectilinear map at a query x, one coordinate an axis, each operation rounded to the format
--- f. Every query has a place, so that none is refused. Assumes nothing.
+-- A rectilinear map at a query x, axis by axis, each operation rounded to the format f, and what the calls on it check. Assumes
+-- nothing.
 use mathlib.Core.Bool.{false}
 use mathlib.Core.List.{List, [], _++_}
 use Prim.Native.Nat.{ℕ}
@@ -12,8 +12,8 @@ use Rattle.knots.specs.Place.{getLoc}
 use Rattle.knots.specs.declared.place.Loc.{Loc}
 use Rattle.rectilinear_weights.specs.Weights.{interpWeights, interpWeightDerivatives}
 use Rattle.knots.specs.Checks.{gridCheck, knotsCheck}
-use Rattle.evaluation.specs.Axes.{rows, firstOver, valueFrom, gradientFrom}
 use Rattle.evaluation.specs.Spline.{Spline}
+use Rattle.evaluation.specs.ByAxis.{ByAxis, splineOf}
 use Rattle.rectilinear_blocks.specs.Map.{RectilinearMap}
 
 -- ---- one axis
@@ -24,14 +24,6 @@ knotsOn count lens grid a = knotsOf grid (take count lens) a
 
 unfoldable pub locOn : ℕ → List ℕ → List Float → List Float → ℕ → Loc
 locOn count lens grid x a = getLoc (knotsOn count lens grid a) (getD x a nan)
-
--- its origin
-abbrev pub originOn : ℕ → List ℕ → List Float → List Float → ℕ → ℕ
-originOn count lens grid x a = locOn count lens grid x a .origin
-
--- the first of the coefficients that count
-abbrev pub firstOn : ℕ → List ℕ → List Float → List Float → ℕ
-firstOn count lens grid x = firstOver (take count lens) (originOn count lens grid x) count
 
 -- the weights of axis a, and its slopes
 module _ (f : Format) (m : RectilinearMap) (grid x : List Float) (a : ℕ) where
@@ -47,13 +39,16 @@ module _ (f : Format) (m : RectilinearMap) (grid x : List Float) (a : ℕ) where
 
 -- ---- a map
 
--- the value at the query, and part k of the gradient
-unfoldable pub valueAt : Format → RectilinearMap → List Float → List Float → List Float → Float
-valueAt f m grid coefs x = valueFrom f (m .count) (m .lens) coefs (rows (m .count) (weightsOn f m grid x)) (firstOn (m .count) (m .lens) grid x)
-
-unfoldable pub partAt : Format → RectilinearMap → List Float → List Float → List Float → ℕ → Float
-partAt f m grid coefs x k =
-    gradientFrom f (m .count) (m .lens) coefs (rows (m .count) (weightsOn f m grid x)) (rows (m .count) (slopesOn f m grid x)) (firstOn (m .count) (m .lens) grid x) k
+-- the map, axis by axis: every query has a place on every axis
+abbrev pub rectilinearAxes : Format → RectilinearMap → List Float → ByAxis
+rectilinearAxes f m grid = record {
+  count = m .count;
+  lens = m .lens;
+  noPlace = λ x a. false;
+  origin = λ x a. locOn (m .count) (m .lens) grid x a .origin;
+  weights = weightsOn f m grid;
+  slopes = slopesOn f m grid;
+}
 
 -- building from a grid alone: the record, the joined grid's length
 unfoldable pub gridAnswer : ℕ → List ℕ → List Float → ℕ
@@ -70,10 +65,4 @@ mapAnswer count lens grid coefs = firstRefusal (mapChecks count lens grid coefs)
 
 -- the map as the calls that evaluate it see it
 abbrev pub rectilinear : Format → RectilinearMap → List Float → List Float → Spline
-rectilinear f m grid coefs = record {
-  axes = m .count;
-  checks = mapChecks (m .count) (m .lens) grid (length coefs);
-  refuses = λ x. false;
-  value = valueAt f m grid coefs;
-  part = partAt f m grid coefs;
-}
+rectilinear f m grid coefs = splineOf f (rectilinearAxes f m grid) (mapChecks (m .count) (m .lens) grid (length coefs)) coefs

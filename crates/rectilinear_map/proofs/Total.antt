@@ -12,6 +12,7 @@ use Rattle.rectilinear.proofs.Total.{knots-test}
 use Rattle.evaluation.proofs.Total.{evaluation-total}
 use Rattle.evaluation.proofs.Placing.{axis-test}
 use Rattle.rectilinear_blocks.specs.Eval.{gridAnswer, mapChecks, mapAnswer, rectilinear}
+use Rattle.rectilinear_blocks.proofs.Figures.{answers-all}
 use Rattle.rectilinear_map.specs.Total.{mapConditions, HasPlace, GridTotal, MapTotal, RectilinearTotal, PlaceTotal}
 use Rattle.rectilinear_map.proofs.Checks.{map-numbered}
 
@@ -41,4 +42,4 @@ place-total count lens grid a four =
 pub rectilinear-total : RectilinearTotal
 rectilinear-total f m grid coefs four =
     evaluation-total (rectilinear f m grid coefs) (mapConditions (m .count) (m .lens) grid (length coefs)) HasPlace
-    (map-tests (m .count) (m .lens) grid (length coefs) four) (map-numbered (m .count) (m .lens) grid (length coefs)) (λ x. ((λ _. tt), (λ _. refl)))
+    (map-tests (m .count) (m .lens) grid (length coefs) four) (map-numbered (m .count) (m .lens) grid (length coefs)) (λ x. ((λ _. tt), (λ _. answers-all f m grid x)))

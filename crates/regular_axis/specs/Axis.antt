@@ -1,5 +1,6 @@
--- One axis of a block of queries: the places of its coordinates, kept entry by entry in lent slices, and the rows worked out
--- from them. Assumes nothing.
+-- One axis of a block of queries: the places of its coordinates, and the rows worked out from them, in two lent slices. `spots` has
+-- the first coefficients, query by query, and from `into` on the numbers of the places; `work` has rows of four, and until a row is
+-- worked out its first cell holds how far the coordinate lies past its origin. Assumes nothing.
 --     n, start, step  the points of the axis
 --     stride          how many coefficients apart two neighbours along the axis stand
 --     x               a coordinate
@@ -48,25 +49,26 @@ module _ (f : Format) (n : ℕ) (start step : Float) (stride : ℕ) where
     pub past : t ≡ pastOrigin f start step x origin
     pub moved : first′ ≡ first + origin * stride
 
-  -- entry k has been looked at: it has its place, or none can be represented
-  pub record Looked (x : Float) (k : ℕ) (firsts sats : List ℕ) (ts : List Float) (r : Bool) (firsts′ sats′ : List ℕ) (ts′ : List Float) : Type 0 where
-    pub placed : r ≡ true → Placed x (getD firsts k 0) (getD firsts′ k 0) (getD sats′ k 0) (getD ts′ k nan)
+  -- query k has been looked at: what is kept of its place stands at `into` and `cell`, or none can be represented
+  pub record Looked (x : Float) (k into cell : ℕ) (spots : List ℕ) (work : List Float) (r : Bool) (spots′ : List ℕ) (work′ : List Float) : Type 0 where
+    pub placed : r ≡ true → Placed x (getD spots k 0) (getD spots′ k 0) (getD spots′ into 0) (getD work′ cell nan)
     pub refused : r ≡ false → getLoc f n start step x ≡ Unrepresentable
-    pub other-firsts : (j : ℕ) → j ≢ k → getD firsts′ j 0 ≡ getD firsts j 0
-    pub other-sats : (j : ℕ) → j ≢ k → getD sats′ j 0 ≡ getD sats j 0
-    pub other-ts : (j : ℕ) → j ≢ k → getD ts′ j nan ≡ getD ts j nan
+    pub other-spots : (i : ℕ) → i ≢ k → i ≢ into → getD spots′ i 0 ≡ getD spots i 0
+    pub other-cells : (i : ℕ) → i ≢ cell → getD work′ i nan ≡ getD work i nan
 
-  -- of m entries, whose coordinates stand in xs from `at` on, r have a place, and the next has none
-  pub record Places (xs : List Float) (at m : ℕ) (firsts : List ℕ) (r : ℕ) (firsts′ sats : List ℕ) (ts : List Float) : Type 0 where
+  -- of m queries, whose coordinates stand in xs from `at` on, r have a place, and the next has none
+  pub record Places (xs : List Float) (at m into row : ℕ) (spots : List ℕ) (work : List Float) (r : ℕ) (spots′ : List ℕ) (work′ : List Float) : Type 0 where
     pub most : r ≤ m
-    pub placed : (k : ℕ) → k < r → Placed (getD xs (at + k) nan) (getD firsts k 0) (getD firsts′ k 0) (getD sats k 0) (getD ts k nan)
+    pub placed : (k : ℕ) → k < r → Placed (getD xs (at + k) nan) (getD spots k 0) (getD spots′ k 0) (getD spots′ (into + k) 0) (getD work′ (4 * (row + k)) nan)
     pub stopped : r < m → getLoc f n start step (getD xs (at + r) nan) ≡ Unrepresentable
+    pub kept-spots : (i : ℕ) → m ≤ i → i < into → getD spots′ i 0 ≡ getD spots i 0
+    pub kept-work : (i : ℕ) → i < 4 * row → getD work′ i nan ≡ getD work i nan
 
 -- ---- the rows of an axis
 
--- of the entry k: its weights, and their slopes
-unfoldable pub weightRow : Format → Bool → List ℕ → List Float → ℕ → List Float
-weightRow f linear sats ts k = interpWeights f linear (satOf (getD sats k 0)) (getD ts k nan)
+-- of query k: its weights, and their slopes
+unfoldable pub weightRow : Format → Bool → ℕ → ℕ → List ℕ → List Float → ℕ → List Float
+weightRow f linear into row spots work k = interpWeights f linear (satOf (getD spots (into + k) 0)) (getD work (4 * (row + k)) nan)
 
-unfoldable pub slopeRow : Format → Bool → Float → List ℕ → List Float → ℕ → List Float
-slopeRow f linear step sats ts k = interpWeightDerivatives f linear (satOf (getD sats k 0)) step (getD ts k nan)
+unfoldable pub slopeRow : Format → Bool → Float → ℕ → ℕ → List ℕ → List Float → ℕ → List Float
+slopeRow f linear step into row spots work k = interpWeightDerivatives f linear (satOf (getD spots (into + k) 0)) step (getD work (4 * (row + k)) nan)

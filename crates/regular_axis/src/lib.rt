@@ -1,7 +1,11 @@
-// One axis of a block of queries on a regular map: the places of the coordinates, the weights and the slopes.
-mod axis;
+// One regular axis of a block of queries, in three stages: the places of the coordinates, the weights, the slopes. Each is one loop
+// over the queries, so that the processor works on several at once; every query goes through its own operations in their order, so
+// that no bit can change.
 mod places;
+mod slopes;
+mod weights;
 
-pub use axis::slope_axis;
-pub use axis::weigh_axis;
-pub use axis::weigh_axis_both;
+pub use places::Points;
+pub use places::places;
+pub use slopes::slopes;
+pub use weights::weights;

@@ -1,6 +1,8 @@
-// The places of a block of coordinates on one regular axis, kept as numbers: an enum cannot stand in a lent slice.
+// The places of a block of coordinates on one regular axis. `spots` has the first coefficients from 0 on, and from `into` on what is
+// kept of the places, as numbers: an enum cannot stand in a lent slice. How far a coordinate lies past its origin waits in `work`, in
+// the first cell of the row that its weights are to have.
 ghost use mathlib.Core.Path.{_≡_};
-ghost use Prim.Native.Nat.{ℕ, _+_, _≤_, _<_};
+ghost use Prim.Native.Nat.{ℕ, _+_, _*_, _≤_, _<_};
 ghost use lib.ListN.{length, getD};
 ghost use lib.Ieee.{binary64};
 ghost use Rattle.regular_axis.specs.Axis.{satNumber, satOf, Axis, Looked, Places};
@@ -8,6 +10,14 @@ use multibspline::Saturation;
 use regular_weights::Loc;
 use regular_weights::get_loc;
 use regular_weights::past_origin;
+
+// An axis of n points, and how many coefficients apart two neighbours along it stand.
+pub struct Points {
+    pub n: usize,
+    pub start: f64,
+    pub step: f64,
+    pub stride: usize,
+}
 
 fn sat_number(sat: Saturation) -> usize
     ensures { λ r. ⌜ r ≡ satNumber sat ⌝ }
@@ -33,55 +43,52 @@ pub fn sat_of(number: usize) -> Saturation
     }
 }
 
-// Entry k, with the coordinate x: its place is kept and its first coefficient moved on by the origin, unless its cell cannot be
+// Query k, with the coordinate x: its place is kept and its first coefficient moved on by the origin, unless its cell cannot be
 // represented.
 fn place_entry(
-    n: usize,
-    start: f64,
-    step: f64,
-    stride: usize,
+    p: Points,
     x: f64,
     k: usize,
-    firsts: &mut [usize],
-    sats: &mut [usize],
-    ts: &mut [f64],
+    into: usize,
+    cell: usize,
+    spots: &mut [usize],
+    work: &mut [f64],
 ) -> bool
-    requires { ⌜ Axis n stride × (getD (now firsts) k 0 ≤ 16777216) ⌝ }
-    requires { ⌜ (k < length (now firsts)) × (k < length (now sats)) × (k < length (now ts)) ⌝ }
-    ensures { λ r. ⌜ Looked binary64 n start step stride x k (now (firsts .entry)) (now (sats .entry)) (now (ts .entry)) r (now (firsts .exit)) (now (sats .exit)) (now (ts .exit)) ⌝ }
+    requires { ⌜ Axis (p .n) (p .stride) × (getD (now spots) k 0 ≤ 16777216) ⌝ }
+    requires { ⌜ (k < into) × (into < length (now spots)) × (cell < length (now work)) ⌝ }
+    ensures { λ r. ⌜ Looked binary64 (p .n) (p .start) (p .step) (p .stride) x k into cell (now (spots .entry)) (now (work .entry)) r (now (spots .exit)) (now (work .exit)) ⌝ }
 {
-    let loc = get_loc(n, start, step, x);
+    let loc = get_loc(p.n, p.start, p.step, x);
     match loc {
         Loc::At(sat, origin) => {
-            ts[k] = past_origin(start, step, x, origin);
-            sats[k] = sat_number(sat);
-            firsts[k] += origin * stride;
+            work[cell] = past_origin(p.start, p.step, x, origin);
+            spots[into] = sat_number(sat);
+            spots[k] += origin * p.stride;
             true
         }
         Loc::Unrepresentable => false,
     }
 }
 
-// The entries, up to the first whose cell cannot be represented: how many come before it.
+// The places of m queries, whose coordinates stand from `at` on and whose rows from row number `row` on, up to the first whose cell
+// cannot be represented: how many come before it.
 pub fn places(
-    n: usize,
-    start: f64,
-    step: f64,
-    stride: usize,
+    p: Points,
     xs: &[f64],
     at: usize,
     m: usize,
-    firsts: &mut [usize],
-    sats: &mut [usize],
-    ts: &mut [f64],
+    into: usize,
+    row: usize,
+    spots: &mut [usize],
+    work: &mut [f64],
 ) -> usize
-    requires { ⌜ Axis n stride × ((k : ℕ) → k < m → getD (now firsts) k 0 ≤ 16777216) ⌝ }
-    requires { ⌜ (at + m ≤ length (now xs)) × (m ≤ length (now firsts)) × (m ≤ length (now sats)) × (m ≤ length (now ts)) ⌝ }
-    ensures { λ r. ⌜ Places binary64 n start step stride (now (xs .entry)) at m (now (firsts .entry)) r (now (firsts .exit)) (now (sats .exit)) (now (ts .exit)) ⌝ }
+    requires { ⌜ Axis (p .n) (p .stride) × ((k : ℕ) → k < m → getD (now spots) k 0 ≤ 16777216) ⌝ }
+    requires { ⌜ (at + m ≤ length (now xs)) × (m ≤ into) × (into + m ≤ length (now spots)) × (4 * (row + m) ≤ length (now work)) ⌝ }
+    ensures { λ r. ⌜ Places binary64 (p .n) (p .start) (p .step) (p .stride) (now (xs .entry)) at m into row (now (spots .entry)) (now (work .entry)) r (now (spots .exit)) (now (work .exit)) ⌝ }
 {
     let mut k: usize = 0;
     while k < m {
-        if !place_entry(n, start, step, stride, xs[at + k], k, firsts, sats, ts) {
+        if !place_entry(p, xs[at + k], k, into + k, 4 * (row + k), spots, work) {
             return k;
         }
         k += 1;

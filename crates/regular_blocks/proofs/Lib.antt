@@ -1,3 +1,2 @@
-pub mod Firsts
-pub mod Weighing
-pub mod Blocks
+pub mod Room
+pub mod Stages

@@ -1,36 +1,43 @@
--- A block of m queries of a batch on a regular map, axis by axis: query `from` and those after it, of n, of coordinates that stand
--- axis after axis. Assumes nothing.
---     a      the axes done so far
---     good   how many entries have a place on each of them
+-- A block of m queries of a batch on a regular map, stage by stage: query `start` and those after it, of n, of coordinates that
+-- stand axis after axis. What functions of the library promise each other; a caller has no use for it. Assumes nothing.
+--     spots    the first coefficient of query k at k; the number of its place on axis a at cap (a + 1) + k
+--     work     rows of four, that of axis a and query k with the number cap a + k; slopes from the number 4 cap on
 use mathlib.Core.Path.{_≡_}
-use mathlib.Core.Bool.{true, false}
+use mathlib.Core.Bool.{Bool}
 use mathlib.Core.List.{List}
 use Prim.Native.Nat.{ℕ, _+_, _*_, _≤_, _<_}
-use lib.ListN.{getD, take}
-use lib.Ieee.{Float, Format}
-use Rattle.shape.specs.Below.{anyBelow}
-use Rattle.evaluation.specs.Axes.{query, firstOver}
-use Rattle.evaluation.specs.Block.{Weighed}
+use lib.ListN.{getD}
+use lib.Ieee.{Float, Format, nan}
+use Rattle.regular_weights.specs.Place.{pastOrigin}
+use Rattle.regular_weights.specs.declared.place.Loc.the-variants.{At}
+use Rattle.evaluation.specs.Axes.{query}
+use Rattle.evaluation.specs.Block.{FirstsTo}
+use Rattle.regular_axis.specs.Axis.{satOf, weightRow, slopeRow}
 use Rattle.regular_blocks.specs.Map.{RegularMap}
-use Rattle.regular_blocks.specs.Eval.{noPlaceOn, originOn}
+use Rattle.regular_blocks.specs.Eval.{locOn, regularAxes}
 
 -- what is lent is long enough: the coordinates, and the buffers of a block that holds up to `cap` queries
-pub record Room (count n start cap m xs firsts sats ts rows : ℕ) : Type 0 where
+pub record Room (count n start cap m xs spots work : ℕ) : Type 0 where
   pub block : m ≤ cap
   pub batch : start + m ≤ n
   pub coordinates : count * n ≤ xs
-  pub in-firsts : m ≤ firsts
-  pub in-sats : m ≤ sats
-  pub in-ts : m ≤ ts
-  pub in-rows : 4 * (cap * count) ≤ rows
+  pub in-spots : cap * (count + 1) ≤ spots
+  pub in-work : 4 * (cap * count) ≤ work
 
--- over the axes so far: the entries that have a place on each, their first coefficients, and that the entry after them is refused
-pub record FirstsTo (f : Format) (map : RegularMap) (xs : List Float) (n start m a good : ℕ) (firsts : List ℕ) : Type 0 where
-  pub most : good ≤ m
-  pub placed : (k : ℕ) → k < good → anyBelow (noPlaceOn f map (query (map .count) xs n (start + k))) a ≡ false
-  pub found : (k : ℕ) → k < good → getD firsts k 0 ≡ firstOver (take (map .count) (map .lens)) (originOn f map (query (map .count) xs n (start + k))) a
-  pub refused : good < m → anyBelow (noPlaceOn f map (query (map .count) xs n (start + good))) a ≡ true
+-- of query x on axis a: the number of its place, and how far it lies past the point after its origin
+pub record Kept (f : Format) (map : RegularMap) (x : List Float) (a number : ℕ) (t : Float) : Type 0 where
+  pub origin : ℕ
+  pub place : locOn f map x a ≡ At (satOf number) origin
+  pub past : t ≡ pastOrigin f (getD (map .starts) a nan) (getD (map .steps) a nan) (getD x a nan) origin
 
--- the rows of the axes so far, `row x b` for axis b of a query x
-pub record RowsTo (row : List Float → ℕ → List Float) (count : ℕ) (xs : List Float) (n start cap a good : ℕ) (rows : List Float) : Type 0 where
-  pub weighed : Weighed (λ b k. row (query count xs n (start + k)) b) cap good a rows
+-- the first a axes have been looked at
+pub record PlacedTo (f : Format) (map : RegularMap) (xs : List Float) (n start cap m a good : ℕ) (spots : List ℕ) (work : List Float) : Type 0 where
+  pub firsts : FirstsTo (regularAxes f map) xs n start m a good spots
+  pub kept : (b k : ℕ) → b < a → k < good → Kept f map (query (map .count) xs n (start + k)) b (getD spots (cap * (b + 1) + k) 0) (getD work (4 * (cap * b + k)) nan)
+
+-- the rows that are worked out from what is kept: weights, and slopes
+abbrev pub weightRows : Format → Bool → ℕ → List ℕ → List Float → ℕ → ℕ → List Float
+weightRows f linear cap spots work a k = weightRow f linear (cap * (a + 1)) (cap * a) spots work k
+
+abbrev pub slopeRows : Format → Bool → List Float → ℕ → List ℕ → List Float → ℕ → ℕ → List Float
+slopeRows f linear steps cap spots work a k = slopeRow f linear (getD steps a nan) (cap * (a + 1)) (cap * a) spots work k

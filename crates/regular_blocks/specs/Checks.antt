@@ -9,8 +9,9 @@ use Rattle.shape.specs.Shape.{size}
 use Rattle.shape.specs.Checks.{Check, refuse, firstRefusal, shapeChecks, lengthCheck, regularFitChecks}
 use Rattle.multibspline.specs.Numbers.{f0}
 use Rattle.evaluation.specs.Spline.{Spline}
+use Rattle.evaluation.specs.ByAxis.{splineOf}
 use Rattle.regular_blocks.specs.Map.{RegularMap}
-use Rattle.regular_blocks.specs.Eval.{refuses, valueAt, partAt}
+use Rattle.regular_blocks.specs.Eval.{regularAxes}
 
 -- a step is not above zero; a NaN is not
 unfoldable pub anyStepBad : List Float → Bool
@@ -32,11 +33,4 @@ fromValuesAnswer count lens steps samples coefs scratch =
 
 -- the map with its coefficients, as the calls that evaluate it see it
 abbrev pub regular : Format → RegularMap → List Float → Spline
-regular f m coeffs =
-    record {
-      axes = m .count;
-      checks = mapChecks (m .count) (m .lens) (m .steps) (length coeffs);
-      refuses = refuses f m;
-      value = valueAt f m coeffs;
-      part = partAt f m coeffs;
-    }
+regular f m coefs = splineOf f (regularAxes f m) (mapChecks (m .count) (m .lens) (m .steps) (length coefs)) coefs

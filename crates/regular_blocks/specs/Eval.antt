@@ -1,16 +1,15 @@
--- The value and the gradient of a regular map at a query x, one coordinate an axis, each operation rounded to the format f.
--- Assumes nothing.
+-- A regular map at a query x, axis by axis, each operation rounded to the format f. Assumes nothing.
 use mathlib.Core.Bool.{Bool, true, false}
 use mathlib.Core.List.{List}
 use Prim.Native.Nat.{ℕ}
-use lib.ListN.{getD, take}
+use lib.ListN.{getD}
 use lib.Ieee.{Float, nan, Format}
-use Rattle.shape.specs.Below.{anyBelow}
 use Rattle.regular_weights.specs.Place.{getLoc, pastOrigin}
 use Rattle.regular_weights.specs.Weights.{interpWeights, interpWeightDerivatives}
 use Rattle.regular_weights.specs.declared.place.Loc.{Loc}
 use Rattle.regular_weights.specs.declared.place.Loc.the-variants.{At, Unrepresentable}
-use Rattle.evaluation.specs.Axes.{zeros, rows, firstOver, valueFrom, gradientFrom}
+use Rattle.evaluation.specs.Axes.{zeros}
+use Rattle.evaluation.specs.ByAxis.{ByAxis}
 use Rattle.regular_blocks.specs.Map.{RegularMap}
 
 -- ---- one axis: its `start` and `step`, the flag, the coordinate x, and the place of x
@@ -35,35 +34,25 @@ slopesAt f start step linear x Unrepresentable = zeros
 
 -- ---- a map
 
-module _ (f : Format) (m : RegularMap) (x : List Float) where
-  -- the place on axis a: whether there is none, and its origin
-  unfoldable pub locOn : ℕ → Loc
-  locOn a = getLoc f (getD (m .lens) a 0) (getD (m .starts) a nan) (getD (m .steps) a nan) (getD x a nan)
-
-  abbrev pub noPlaceOn : ℕ → Bool
-  noPlaceOn a = isUnrepresentable (locOn a)
-
-  abbrev pub originOn : ℕ → ℕ
-  originOn a = originAt (locOn a)
+module _ (f : Format) (m : RegularMap) (x : List Float) (a : ℕ) where
+  -- the place on axis a
+  unfoldable pub locOn : Loc
+  locOn = getLoc f (getD (m .lens) a 0) (getD (m .starts) a nan) (getD (m .steps) a nan) (getD x a nan)
 
   -- the weights of axis a, and its slopes
-  unfoldable pub weightsOn : ℕ → List Float
-  weightsOn a = weightsAt f (getD (m .starts) a nan) (getD (m .steps) a nan) (m .linear) (getD x a nan) (locOn a)
+  unfoldable pub weightsOn : List Float
+  weightsOn = weightsAt f (getD (m .starts) a nan) (getD (m .steps) a nan) (m .linear) (getD x a nan) locOn
 
-  unfoldable pub slopesOn : ℕ → List Float
-  slopesOn a = slopesAt f (getD (m .starts) a nan) (getD (m .steps) a nan) (m .linear) (getD x a nan) (locOn a)
+  unfoldable pub slopesOn : List Float
+  slopesOn = slopesAt f (getD (m .starts) a nan) (getD (m .steps) a nan) (m .linear) (getD x a nan) locOn
 
-  -- does some axis refuse the query?
-  unfoldable pub refuses : Bool
-  refuses = anyBelow noPlaceOn (m .count)
-
-  -- the first of the coefficients that count
-  abbrev pub firstOn : ℕ
-  firstOn = firstOver (take (m .count) (m .lens)) originOn (m .count)
-
--- the value at the query, and part k of the gradient
-unfoldable pub valueAt : Format → RegularMap → List Float → List Float → Float
-valueAt f m coefs x = valueFrom f (m .count) (m .lens) coefs (rows (m .count) (weightsOn f m x)) (firstOn f m x)
-
-unfoldable pub partAt : Format → RegularMap → List Float → List Float → ℕ → Float
-partAt f m coefs x k = gradientFrom f (m .count) (m .lens) coefs (rows (m .count) (weightsOn f m x)) (rows (m .count) (slopesOn f m x)) (firstOn f m x) k
+-- the map, axis by axis
+abbrev pub regularAxes : Format → RegularMap → ByAxis
+regularAxes f m = record {
+  count = m .count;
+  lens = m .lens;
+  noPlace = λ x a. isUnrepresentable (locOn f m x a);
+  origin = λ x a. originAt (locOn f m x a);
+  weights = weightsOn f m;
+  slopes = slopesOn f m;
+}

@@ -20,10 +20,11 @@ use Rattle.multibspline.specs.Numbers.{f0}
 use Rattle.regular.proofs.Total.{fit-tests}
 use Rattle.regular_weights.specs.declared.place.Loc.{Loc}
 use Rattle.regular_weights.specs.declared.place.Loc.the-variants as Loc
+use Rattle.evaluation.specs.ByAxis.{refuses}
 use Rattle.evaluation.proofs.Total.{evaluation-total}
 use Rattle.evaluation.proofs.Placing.{axis-test}
 use Rattle.regular_blocks.specs.Map.{RegularMap}
-use Rattle.regular_blocks.specs.Eval.{isUnrepresentable, locOn, noPlaceOn, refuses}
+use Rattle.regular_blocks.specs.Eval.{isUnrepresentable, locOn, regularAxes}
 use Rattle.regular_blocks.specs.Checks.{anyStepBad, mapChecks, mapAnswer, fromValuesAnswer, regular}
 use Rattle.regular_map.specs.Place.{locAt}
 use Rattle.regular_map.specs.Total.{stepsCondition, Representable, mapConditions, MapTotal, FromValuesTotal, RegularTotal, PlaceTotal}
@@ -86,11 +87,11 @@ place-total f count lens starts steps a x four four′ =
     steps-test count steps (omega (arith, u .at-most-four)) (axis-test count a (test refl (has-place (locAt f lens starts steps a x)) (λ _. none)))))
 
 module _ (f : Format) (m : RegularMap) (x : List Float) where
-  pub representable : (refuses f m x ≡ false) ↔ Representable f m x
+  pub representable : (refuses (regularAxes f m) x ≡ false) ↔ Representable f m x
   unfolding refuses
   representable = (
-    (λ e a h. has-place (locOn f m x a) .0 (none-at (noPlaceOn f m x) (m .count) e a h)),
-    (λ h. any-none (noPlaceOn f m x) (m .count) (λ a k. has-place (locOn f m x a) .1 (h a k))),
+    (λ e a h. has-place (locOn f m x a) .0 (none-at (regularAxes f m .noPlace x) (m .count) e a h)),
+    (λ h. any-none (regularAxes f m .noPlace x) (m .count) (λ a k. has-place (locOn f m x a) .1 (h a k))),
   )
 
 -- ---- values and gradients

@@ -2,10 +2,13 @@
 // multibspline::regular.
 mod answers;
 mod batch;
+mod blocks;
 mod build;
 mod eval;
+mod grid;
 mod place;
 mod record;
+mod single;
 
 pub use answers::Placed;
 pub use build::blank;

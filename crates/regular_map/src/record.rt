@@ -81,36 +81,14 @@ impl MultiBsplineRegular {
     pub fn interp_one(self, coeffs: &[f64], x: &[f64]) -> Valued
         ensures { λ r. ⌜ OneValue (regular binary64 (mapOf self) (now (coeffs .entry))) (now (x .entry)) (valuedNumber r) (valuedValue r) ⌝ }
     {
-        let dims = self.dims;
-        let starts = self.starts;
-        let steps = self.steps;
-        eval::one(
-            self.count,
-            dims,
-            starts,
-            steps,
-            self.linearize_extrapolation,
-            coeffs,
-            x,
-        )
+        eval::one(self, coeffs, x)
     }
 
     // The gradient at a query, with the refusals of interp_one.
     pub fn interp_one_grad(self, coeffs: &[f64], x: &[f64]) -> Gradient
         ensures { λ r. ⌜ OneGradient (regular binary64 (mapOf self) (now (coeffs .entry))) (now (x .entry)) (answerNumber (r .answer)) (r .parts) ⌝ }
     {
-        let dims = self.dims;
-        let starts = self.starts;
-        let steps = self.steps;
-        eval::one_grad(
-            self.count,
-            dims,
-            starts,
-            steps,
-            self.linearize_extrapolation,
-            coeffs,
-            x,
-        )
+        eval::one_grad(self, coeffs, x)
     }
 
     // Values at a batch of queries, axis after axis: `out.len()` coordinates of axis 0, then those of axis 1, and so on. The
@@ -119,19 +97,7 @@ impl MultiBsplineRegular {
     pub fn interp(self, coeffs: &[f64], x: &[f64], out: &mut [f64]) -> Answer
         ensures { λ r. ⌜ ValueBatch (regular binary64 (mapOf self) (now (coeffs .entry))) (now (x .entry)) (now (out .entry)) (answerNumber r) (now (out .exit)) ⌝ }
     {
-        let dims = self.dims;
-        let starts = self.starts;
-        let steps = self.steps;
-        batch::values(
-            self.count,
-            dims,
-            starts,
-            steps,
-            self.linearize_extrapolation,
-            coeffs,
-            x,
-            out,
-        )
+        batch::values(self, coeffs, x, out)
     }
 
     // Gradients at a batch of queries, both axis after axis: of n entries, part k of entry i at k n + i. As `interp`; 2 also
@@ -139,19 +105,7 @@ impl MultiBsplineRegular {
     pub fn interp_grad(self, coeffs: &[f64], x: &[f64], out: &mut [f64]) -> Answer
         ensures { λ r. ⌜ GradientBatch (regular binary64 (mapOf self) (now (coeffs .entry))) (now (x .entry)) (now (out .entry)) (answerNumber r) (now (out .exit)) ⌝ }
     {
-        let dims = self.dims;
-        let starts = self.starts;
-        let steps = self.steps;
-        batch::gradients(
-            self.count,
-            dims,
-            starts,
-            steps,
-            self.linearize_extrapolation,
-            coeffs,
-            x,
-            out,
-        )
+        batch::gradients(self, coeffs, x, out)
     }
 
     // A map from its coefficients, or the first of these refusals: 1, 2, 3 for the shape; 2, the length of `coeffs`; 5, a

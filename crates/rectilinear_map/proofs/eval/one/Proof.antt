@@ -1,4 +1,3 @@
-use mathlib.Core.Path.{refl}
 use native.Mathlib.Omega.{arith}
 use denote.Ref.{now}
 use lib.ListN.{length}
@@ -6,6 +5,7 @@ use borrow.Author.Needs.{needs}
 use Rattle.shape.specs.declared.answers.Refusal.the-variants.{DimensionMismatch}
 use Rattle.evaluation.proofs.Outcomes.{value-found, one-refused, one-checks, one-length, one-answered}
 use Rattle.rectilinear_blocks.specs.Eval.{mapAnswer}
+use Rattle.rectilinear_blocks.proofs.Figures.{answers-all}
 use Rattle.rectilinear_map.proofs.Checks.{map-numbered, told-sound}
 use Rattle.rectilinear_map.proofs.eval.one.Statement.{statement}
 use Rattle.rectilinear_map.proofs.eval.one.Tie as tie
@@ -40,7 +40,7 @@ returns-3 c =
     let t = i .before in
     let w = t .before .before in
     let a = w .before .before .before .before .args in
-    one-answered _ (now (a .x)) (map-numbered (a .count) (a .dims) (now (a .grid)) (length (now (a .coeffs)))) (t .enum-told .given .1) (w .check-map .ensures) (i .if1 .left) (value-found _ _ refl (c .value-at .ensures))
+    one-answered _ (now (a .x)) (map-numbered (a .count) (a .dims) (now (a .grid)) (length (now (a .coeffs)))) (t .enum-told .given .1) (w .check-map .ensures) (i .if1 .left) (value-found _ _ (answers-all _ _ _ _) (c .value-at .ensures))
 
 pub one-spec : {M : Type 1} → statement M
 one-spec =

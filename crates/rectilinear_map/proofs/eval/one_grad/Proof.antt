@@ -1,4 +1,3 @@
-use mathlib.Core.Path.{refl}
 use native.Mathlib.Omega.{arith}
 use denote.Ref.{now}
 use lib.ListN.{length}
@@ -6,6 +5,7 @@ use borrow.Author.Needs.{needs}
 use Rattle.shape.specs.declared.answers.Refusal.the-variants.{DimensionMismatch}
 use Rattle.evaluation.proofs.Outcomes.{gradient-found, one-gradient-refused, one-checks, one-length, one-gradient-answered}
 use Rattle.rectilinear_blocks.specs.Eval.{mapAnswer}
+use Rattle.rectilinear_blocks.proofs.Figures.{answers-all}
 use Rattle.rectilinear_map.proofs.Checks.{map-numbered, told-sound}
 use Rattle.rectilinear_map.proofs.eval.one_grad.Statement.{statement}
 use Rattle.rectilinear_map.proofs.eval.one_grad.Tie as tie
@@ -42,7 +42,7 @@ returns-3 c =
     let t = i .before in
     let w = t .before .before in
     let a = w .before .before .before .before .args in
-    one-gradient-answered _ (now (a .x)) (map-numbered (a .count) (a .dims) (now (a .grid)) (length (now (a .coeffs)))) (t .enum-told .given .1) (w .check-map .ensures) (i .if1 .left) (gradient-found _ _ refl (c .gradient-at .ensures))
+    one-gradient-answered _ (now (a .x)) (map-numbered (a .count) (a .dims) (now (a .grid)) (length (now (a .coeffs)))) (t .enum-told .given .1) (w .check-map .ensures) (i .if1 .left) (gradient-found _ _ (answers-all _ _ _ _) (c .gradient-at .ensures))
 
 pub one-grad-spec : {M : Type 1} → statement M
 one-grad-spec =

@@ -7,45 +7,40 @@ use Rattle.regular_axis.proofs.places.places.Statement.{statement}
 use Rattle.regular_axis.proofs.places.places.Tie as tie
 
 abbrev Inv : tie.InvT-loop
-Inv n start step stride xs at m firsts₀ sats₀ ts₀ k₀ firsts sats ts k = Placing binary64 n start step stride xs at m firsts₀ sats₀ ts₀ firsts sats ts k
+Inv p xs at m into row spots₀ work₀ k₀ spots work k = Placing binary64 (p .n) (p .start) (p .step) (p .stride) xs at m into row spots₀ work₀ spots work k
 
 abbrev μ : tie.MeasureT-loop
-μ n start step stride xs at m firsts₀ sats₀ ts₀ k₀ firsts sats ts k = m - k
+μ p xs at m into row spots₀ work₀ k₀ spots work k = m - k
 
 place-entry-requires : tie.Need-place-entry-requires Inv μ
 place-entry-requires c κs =
-    let t = c .before .before .before .before in
+    let t = c .before .before .before in
     let w = t .before .loop .inv in
-    let s = t .before .before .before .before .before .before in
-    ((s .pre .0 .0, omega (arith, w .rest (t .before .loop .k) (omega arith), s .pre .0 .1 (t .before .loop .k) (t .loop-test .taken))), (omega arith, omega arith, omega arith))
+    let s = t .before .before .before .before .before in
+    ((s .pre .0 .0, omega (arith, w .rest (t .before .loop .k) (omega arith) (omega arith), s .pre .0 .1 (t .before .loop .k) (t .loop-test .taken))), (omega arith, omega (arith, w .length-spots), omega (arith, w .length-work)))
 
 same-length : tie.Need-same-length Inv μ
 same-length c =
-    let p = c .before .before .before .before .before .before .before in
-    p .place-entry .kept .1 .1 .1 .1 .1 .1 .0 ∙ p .before .before .before .before .before .before .loop .inv .length-firsts
+    let p = c .before .before .before .before .before in
+    p .place-entry .kept .1 .1 .1 .1 .1 .0 ∙ p .before .before .before .before .before .loop .inv .length-spots
 
 same-length-2 : tie.Need-same-length-2 Inv μ
 same-length-2 c =
-    let p = c .before .before .before .before .before .before .before in
-    p .place-entry .kept .1 .1 .1 .1 .1 .1 .1 .0 ∙ p .before .before .before .before .before .before .loop .inv .length-sats
-
-same-length-3 : tie.Need-same-length-3 Inv μ
-same-length-3 c =
-    let p = c .before .before .before .before .before .before .before in
-    p .place-entry .kept .1 .1 .1 .1 .1 .1 .1 .1 .0 ∙ p .before .before .before .before .before .before .loop .inv .length-ts
+    let p = c .before .before .before .before .before in
+    p .place-entry .kept .1 .1 .1 .1 .1 .1 .0 ∙ p .before .before .before .before .before .loop .inv .length-work
 
 returns : tie.Need-returns Inv μ
 returns c =
-    let p = c .before .before .before .before .before .before .before in
-    let t = p .before .before .before .before .before in
-    placing-stop _ _ _ _ _ _ _ _ _ _ _ (t .before .loop .inv) (t .loop-test .taken) (p .place-entry .ensures) (c .if1 .taken)
+    let p = c .before .before .before .before .before in
+    let t = p .before .before .before .before in
+    placing-stop binary64 _ _ _ _ _ _ _ _ _ _ _ (t .before .before .before .before .before .pre .1 .1) (t .before .loop .inv) (t .loop-test .taken) (p .place-entry .ensures) (c .if1 .taken)
 
 loop-again : tie.Need-loop-again Inv μ
 loop-again c =
-    let p = c .before .before .before .before .before .before .before in
-    let k = p .place-entry .kept .1 .1 .1 .1 .1 .1 in
-    let t = p .before .before .before .before .before in
-    placing-next _ _ _ _ _ _ _ _ _ _ _ (t .before .loop .inv) (t .loop-test .taken) (p .place-entry .ensures) (c .if1 .left) (k .0) (k .1 .0) (k .1 .1 .0)
+    let p = c .before .before .before .before .before in
+    let k = p .place-entry .kept .1 .1 .1 .1 .1 in
+    let t = p .before .before .before .before in
+    placing-next binary64 _ _ _ _ _ _ _ _ _ _ _ (t .before .before .before .before .before .pre .1 .1) (t .before .loop .inv) (t .loop-test .taken) (p .place-entry .ensures) (c .if1 .left) (k .0) (k .1 .0)
 
 pub places-spec : {M : Type 1} → statement M
 places-spec =
@@ -53,19 +48,18 @@ places-spec =
     (tie.spec
     Inv
     μ
-    (λ c. placing-start _ _ _ _ _ _ _ _ _ _ _)
+    (λ c. placing-start binary64 _ _ _ _ _ _ _ _ _ _ _)
+    (λ c. omega arith)
     (λ c. omega arith)
     (λ c. omega arith)
     (λ c. omega arith)
     place-entry-requires
     same-length
     same-length-2
-    same-length-3
     returns
     (λ c. omega arith)
     (λ c. omega arith)
     loop-again
-    (λ c. c .before .loop .inv .length-firsts)
-    (λ c. c .before .loop .inv .length-sats)
-    (λ c. c .before .loop .inv .length-ts)
-    (λ c. placing-done _ _ _ _ _ _ _ _ _ _ _ (c .before .loop .inv) (c .loop-test .left)))
+    (λ c. c .before .loop .inv .length-spots)
+    (λ c. c .before .loop .inv .length-work)
+    (λ c. placing-done binary64 _ _ _ _ _ _ _ _ _ _ _ (c .before .loop .inv) (c .loop-test .left)))
