@@ -128,9 +128,9 @@ module _ (m : ByAxis) (xs : List Float) (n start : ℕ) where
 -- ---- what the block answers, once all axes are done
 
 -- the rows of entry k, as a table
-rows-of : {row : List Float → ℕ → List Float} {count : ℕ} {xs : List Float} {n start cap good : ℕ} (rows : List Float) → RowsTo row count xs n start cap count good rows → count ≤ 4 → (k : ℕ) → k < good
-    → RowsOn count (row (query count xs n (start + k))) (weightsOf rows cap k)
-rows-of {cap = cap} rows w few k g = weights-on rows cap k few (λ a h. w .at a k h g)
+rows-of : (row : List Float → ℕ → List Float) (count : ℕ) (xs : List Float) (n start cap : ℕ) {good : ℕ} (table : List Float) → RowsTo row count xs n start cap count good table → count ≤ 4 → (k : ℕ) → k < good
+    → RowsOn count (row (query count xs n (start + k))) (weightsOf table cap k)
+rows-of row count xs n start cap table w few k g = weights-on table cap k few (λ a h. w .at a k h g)
 
 module _ (m : ByAxis) (xs : List Float) (n start q : ℕ) {good : ℕ} {firsts : List ℕ} (w : FirstsTo m xs n start q (m .count) good firsts) where
   entry-good : (k : ℕ) → k < good → refuses m (query (m .count) xs n (start + k)) ≡ false
@@ -149,7 +149,7 @@ module _ (m : ByAxis) (xs : List Float) (n start q : ℕ) {good : ℕ} {firsts :
         → Block (badAt (splineOf f m checks coefs) xs n) (valueStep (splineOf f m checks coefs) xs n) start q out good out′
     block-values rows p e =
         value-block (splineOf f m checks coefs) xs n start q good out (w .most) entry-good entry-stops (λ k. summed f coefs ss (weightsOf rows cap k) (m .count) (getD firsts k 0))
-        (λ k h. value-is f m _ coefs (w .found k h) es few (rows-of rows p few k h)) e
+        (λ k h. value-is f m _ coefs (w .found k h) es few (rows-of (m .weights) (m .count) xs n start cap rows p few k h)) e
 
     -- gradients, by the weights and the slopes
     pub block-gradients : (rows slopes : List Float) → RowsTo (m .weights) (m .count) xs n start cap (m .count) good rows → RowsTo (m .slopes) (m .count) xs n start cap (m .count) good slopes
@@ -157,7 +157,7 @@ module _ (m : ByAxis) (xs : List Float) (n start q : ℕ) {good : ℕ} {firsts :
         → Block (badAt (splineOf f m checks coefs) xs n) (gradientStep (splineOf f m checks coefs) xs n) start q out good out′
     block-gradients rows slopes p d e =
         gradient-block (splineOf f m checks coefs) xs n start q good out (w .most) entry-good entry-stops (λ k j. gradientPart f coefs ss (weightsOf rows cap k) (weightsOf slopes cap k) (m .count) (getD firsts k 0) j)
-        (λ k j h l. part-is f m _ coefs (w .found k h) es few (rows-of rows p few k h) (rows-of slopes d few k h) j l) e
+        (λ k j h l. part-is f m _ coefs (w .found k h) es few (rows-of (m .weights) (m .count) xs n start cap rows p few k h) (rows-of (m .slopes) (m .count) xs n start cap slopes d few k h) j l) e
 
     -- gradients over one axis, by the slopes alone
     pub block-slopes : (slopes : List Float) → m .count ≡ 1 → RowsTo (m .slopes) (m .count) xs n start cap (m .count) good slopes
@@ -165,7 +165,7 @@ module _ (m : ByAxis) (xs : List Float) (n start q : ℕ) {good : ℕ} {firsts :
         → Block (badAt (splineOf f m checks coefs) xs n) (gradientStep (splineOf f m checks coefs) xs n) start q out good out′
     block-slopes slopes one d e =
         slope-block (splineOf f m checks coefs) xs n start q good out (w .most) entry-good entry-stops one (λ k. summed f coefs ss (weightsOf slopes cap k) (m .count) (getD firsts k 0))
-        (λ k h. slope-is f m _ coefs (w .found k h) es few one (rows-of slopes d few k h)) e
+        (λ k h. slope-is f m _ coefs (w .found k h) es few one (rows-of (m .slopes) (m .count) xs n start cap slopes d few k h)) e
 
 -- ---- maps that agree on the axes in use are the same map
 

@@ -84,8 +84,8 @@ axes-weighed {cap = cap} w = record { at = λ b k h l. let e : 0 + cap * b + k �
 pub row-part : (rows : List Float) (at r j : ℕ) → at ≡ 4 * r → rowAt (drop at rows) j ≡ rowAt rows (r + j)
 unfolding rowAt
 row-part rows at r j e =
-    let cell : (q : ℕ) {i : ℕ} → at + q ≡ i → getD (drop at rows) q nan ≡ getD rows i nan = λ q same. getD-drop at rows q nan ∙ ap (λ (z : ℕ). getD rows z nan) same in
-    rw (cell (4 * j) (omega arith), cell (4 * j + 1) (omega arith), cell (4 * j + 2) (omega arith), cell (4 * j + 3) (omega arith))
+    let cell : (q i : ℕ) → at + q ≡ i → getD (drop at rows) q nan ≡ getD rows i nan = λ q i same. getD-drop at rows q nan ∙ ap (λ (z : ℕ). getD rows z nan) same in
+    rw (cell (4 * j) (4 * (r + j)) (omega arith), cell (4 * j + 1) (4 * (r + j) + 1) (omega arith), cell (4 * j + 2) (4 * (r + j) + 2) (omega arith), cell (4 * j + 3) (4 * (r + j) + 3) (omega arith))
 
 -- the first cell of a row
 pub row-first : (rows rows′ : List Float) (j : ℕ) → rowAt rows j ≡ rowAt rows′ j → getD rows (4 * j) nan ≡ getD rows′ (4 * j) nan

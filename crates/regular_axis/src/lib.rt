@@ -6,6 +6,6 @@ mod slopes;
 mod weights;
 
 pub use places::Points;
-pub use places::places;
-pub use slopes::slopes;
-pub use weights::weights;
+pub use places::put_places;
+pub use slopes::put_slopes;
+pub use weights::put_weights;

@@ -72,7 +72,7 @@ fn place_entry(
 
 // The places of m queries, whose coordinates stand from `at` on and whose rows from row number `row` on, up to the first whose cell
 // cannot be represented: how many come before it.
-pub fn places(
+pub fn put_places(
     p: Points,
     xs: &[f64],
     at: usize,

@@ -10,7 +10,7 @@ use crate::places::sat_of;
 use evaluation::put_row;
 use regular_weights::interp_weight_derivatives;
 
-fn put_slopes(linear: bool, step: f64, number: usize, t: f64, j: usize, work: &mut [f64])
+fn slope_row(linear: bool, step: f64, number: usize, t: f64, j: usize, work: &mut [f64])
     requires { ⌜ 4 * j + 4 ≤ length (now work) ⌝ }
     ensures { λ _. ⌜ now (work .exit) ≡ withRow (now (work .entry)) j (interpWeightDerivatives binary64 linear (satOf number) step t) ⌝ }
 {
@@ -22,7 +22,7 @@ fn put_slopes(linear: bool, step: f64, number: usize, t: f64, j: usize, work: &m
 }
 
 // The rows of m queries, from row number `to` on. How far each coordinate lies past its origin waits in the rows from `row` on.
-pub fn slopes(
+pub fn put_slopes(
     linear: bool,
     step: f64,
     m: usize,
@@ -37,7 +37,7 @@ pub fn slopes(
 {
     let mut k: usize = 0;
     while k < m {
-        put_slopes(linear, step, spots[into + k], work[4 * (row + k)], to + k, work);
+        slope_row(linear, step, spots[into + k], work[4 * (row + k)], to + k, work);
         k += 1;
     }
 }

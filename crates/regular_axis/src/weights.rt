@@ -11,7 +11,7 @@ use evaluation::put_row;
 use regular_weights::interp_weights;
 
 // Row number j, by how far its coordinate lies past its origin, which waits in its first cell.
-fn put_weights(linear: bool, number: usize, j: usize, work: &mut [f64])
+fn weigh_row(linear: bool, number: usize, j: usize, work: &mut [f64])
     requires { ⌜ 4 * j + 4 ≤ length (now work) ⌝ }
     ensures { λ _. ⌜ now (work .exit) ≡ withRow (now (work .entry)) j (interpWeights binary64 linear (satOf number) (getD (now (work .entry)) (4 * j) nan)) ⌝ }
 {
@@ -20,13 +20,13 @@ fn put_weights(linear: bool, number: usize, j: usize, work: &mut [f64])
 }
 
 // The rows of m queries, from row number `row` on.
-pub fn weights(linear: bool, m: usize, into: usize, row: usize, spots: &[usize], work: &mut [f64])
+pub fn put_weights(linear: bool, m: usize, into: usize, row: usize, spots: &[usize], work: &mut [f64])
     requires { ⌜ (into + m ≤ length (now spots)) × (4 * (row + m) ≤ length (now work)) ⌝ }
     ensures { λ _. ⌜ RowsPut (weightRow binary64 linear into row (now (spots .entry)) (now (work .entry))) row m (now (work .entry)) (now (work .exit)) ⌝ }
 {
     let mut k: usize = 0;
     while k < m {
-        put_weights(linear, spots[into + k], row + k, work);
+        weigh_row(linear, spots[into + k], row + k, work);
         k += 1;
     }
 }

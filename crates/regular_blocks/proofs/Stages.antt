@@ -4,20 +4,21 @@ use mathlib.Core.Path.{_≡_, refl, ap, _∙_}
 use mathlib.Core.Logic.{inl, inr}
 use mathlib.Core.Bool.{Bool}
 use mathlib.Core.List.{List}
-use Prim.Native.Nat.{ℕ, suc, _+_, _*_, _≤_, _<_}
-use native.Mathlib.Nat.{eq-or-lt-of-le, mul-le-mul-left}
+use Prim.Native.Nat.{ℕ, suc, _+_, _*_, _-_, _≤_, _<_}
+use native.Mathlib.Nat.{eq-or-lt-of-le, mul-le-mul-left, mul-add}
 use native.Mathlib.Omega.{arith}
-use lib.ListN.{length, getD, take, drop}
+use lib.ListN.{length, getD, take, drop, length-drop}
+use lib.Seq.{take-all}
 use lib.Ieee.{Float, nan, Format}
 use Rattle.shape.specs.Shape.{stride}
 use Rattle.shape.proofs.Accepted.{room, axis-small, points-are}
 use Rattle.regular_weights.specs.Place.{getLoc}
 use Rattle.regular_weights.specs.declared.place.Loc.{Loc}
 use Rattle.evaluation.specs.Axes.{query, Ready}
-use Rattle.evaluation.specs.Block.{rowAt, AxesPut, RowsTo}
+use Rattle.evaluation.specs.Block.{rowAt, RowsPut, AxesPut, RowsTo}
 use Rattle.evaluation.proofs.Entries.{stride-at}
 use Rattle.evaluation.proofs.ByAxis.{Moved, firsts-start, firsts-small, firsts-next, firsts-done}
-use Rattle.evaluation.proofs.Rows.{row-part, row-first}
+use Rattle.evaluation.proofs.Rows.{axes-none, axes-next, axes-done, row-part, row-first}
 use Rattle.evaluation.proofs.Weighed.{block-coordinate, block-inside, block-room}
 use Rattle.regular_axis.specs.Axis.{satOf, Axis, Places, weightRow, slopeRow}
 use Rattle.regular_blocks.specs.Map.{RegularMap}
@@ -49,6 +50,9 @@ axis-room {count} {cap = cap} w a good h k =
       in-spots = omega (arith, w .in-spots, w .block, here);
       in-work = block-room cap count a good h (omega (arith, w .block)) (w .in-work);
     }
+
+pub room-spots : {count n start cap m xs spots spots′ work : ℕ} → spots′ ≡ spots → Room count n start cap m xs spots work → Room count n start cap m xs spots′ work
+room-spots e w = rw e w
 
 -- ---- places, one axis more
 
@@ -128,6 +132,68 @@ module _ (f : Format) (map : RegularMap) (xs : List Float) (n start cap m : ℕ)
   pub placing-done : {spots : List ℕ} {work : List Float} {good a : ℕ} → Placing spots work good a → map .count ≤ a → PlacedTo f map xs n start cap m (map .count) good spots work
   placing-done {a = a} w h = let e : a ≡ map .count = omega (arith, w .most) in rw e at (w .so-far)
 
+-- ---- the loops over the axes that work out the rows
+
+rows-as : {row row′ : ℕ → List Float} {base m : ℕ} {old new : List Float} → ((k : ℕ) → k < m → row k ≡ row′ k) → RowsPut row base m old new → RowsPut row′ base m old new
+rows-as e w = record { each = λ k l. w .each k l ∙ e k l; before = w .before; after = w .after }
+
+module _ (f : Format) (linear : Bool) (cap m count : ℕ) (spots : List ℕ) (work₀ : List Float) where
+  pub record Weighing (work : List Float) (a : ℕ) : Type 0 where
+    pub most : a ≤ count
+    pub length-work : length work ≡ length work₀
+    pub so-far : AxesPut (weightRows f linear cap spots work₀) cap 0 m a work₀ work
+
+  pub weighing-start : Weighing work₀ 0
+  weighing-start = record { most = omega arith; length-work = refl; so-far = axes-none _ _ _ _ _ }
+
+  -- what waits in the rows of axis a has not been written over yet
+  pub weighing-next : {work work′ : List Float} {a : ℕ} → Weighing work a → a < count → m ≤ cap → RowsPut (weightRow f linear (cap * (a + 1)) (cap * a) spots work) (cap * a) m work work′
+      → length work′ ≡ length work → Weighing work′ (a + 1)
+  unfolding weightRow
+  weighing-next {work} {work′} {a} w h few p e =
+      let own : (k : ℕ) → getD work (4 * (cap * a + k)) nan ≡ getD work₀ (4 * (cap * a + k)) nan = λ k. row-first work work₀ (cap * a + k) (w .so-far .after (cap * a + k) (omega arith)) in
+      record {
+        most = omega arith;
+        length-work = e ∙ w .length-work;
+        so-far = axes-next _ _ _ _ _ few (let q : cap * a ≡ 0 + cap * a = omega arith in q) (w .so-far) (rows-as (λ k l. rw (own k)) p);
+      }
+
+  pub weighing-done : {work : List Float} {a : ℕ} → Weighing work a → count ≤ a → AxesPut (weightRows f linear cap spots work₀) cap 0 m count work₀ work
+  weighing-done w h = axes-done _ _ _ _ _ (w .so-far) (w .most) h
+
+module _ (f : Format) (linear : Bool) (steps : List Float) (cap m count : ℕ) (spots : List ℕ) (work₀ : List Float) where
+  pub record Sloping (work : List Float) (a : ℕ) : Type 0 where
+    pub most : a ≤ count
+    pub length-work : length work ≡ length work₀
+    pub so-far : AxesPut (slopeRows f linear steps cap spots work₀) cap (cap * 4) m a work₀ work
+
+  pub sloping-start : Sloping work₀ 0
+  sloping-start = record { most = omega arith; length-work = refl; so-far = axes-none _ _ _ _ _ }
+
+  pub sloping-next : {work work′ : List Float} {a : ℕ} → Sloping work a → a < count → count ≤ 4 → m ≤ cap
+      → RowsPut (slopeRow f linear (getD steps a nan) (cap * (a + 1)) (cap * a) spots work) (cap * (4 + a)) m work work′ → length work′ ≡ length work → Sloping work′ (a + 1)
+  unfolding slopeRow
+  sloping-next {work} {work′} {a} w h four few p e =
+      let below : cap * suc a ≤ cap * 4 = mul-le-mul-left cap (let q : suc a ≤ 4 = omega arith in q) in
+      let own : (k : ℕ) → k < m → getD work (4 * (cap * a + k)) nan ≡ getD work₀ (4 * (cap * a + k)) nan = λ k l. row-first work work₀ (cap * a + k) (w .so-far .before (cap * a + k) (omega (arith, below))) in
+      record {
+        most = omega arith;
+        length-work = e ∙ w .length-work;
+        so-far = axes-next _ _ _ _ _ few (mul-add cap 4 a) (w .so-far) (rows-as (λ k l. rw (own k l)) p);
+      }
+
+  pub sloping-done : {work : List Float} {a : ℕ} → Sloping work a → count ≤ a → AxesPut (slopeRows f linear steps cap spots work₀) cap (cap * 4) m count work₀ work
+  sloping-done w h = axes-done _ _ _ _ _ (w .so-far) (w .most) h
+
+-- what stands behind the rows of four axes stands behind those of the axes in use
+pub four-behind : (cap : ℕ) {count j : ℕ} → count ≤ 4 → cap * 4 ≤ j → 0 + cap * count ≤ j
+four-behind cap few h = omega (arith, mul-le-mul-left cap few)
+
+-- ---- the part of the rows from `at` on
+
+pub part-behind : (rows : List Float) (at : ℕ) → take (length rows - at) (drop at rows) ≡ drop at rows
+part-behind rows at = take-all (length rows - at) (drop at rows) (omega (arith, length-drop at rows))
+
 -- ---- rows, by what is kept
 
 module _ (f : Format) (map : RegularMap) (xs : List Float) (n start cap m good : ℕ) {spots : List ℕ} {work : List Float} (w : PlacedTo f map xs n start cap m (map .count) good spots work) where
@@ -152,10 +218,10 @@ module _ (f : Format) (map : RegularMap) (xs : List Float) (n start cap m good :
       }
 
   -- slopes, once they have stood through the weighing
-  pub slopes-are : {work′ work″ : List Float} (behind : ℕ) → behind ≡ 16 * cap → AxesPut (slopeRows f (map .linear) (map .steps) cap spots work) cap (cap * 4) good (map .count) work work′
+  pub slopes-are : {work′ : List Float} (work″ : List Float) (behind : ℕ) → behind ≡ 16 * cap → AxesPut (slopeRows f (map .linear) (map .steps) cap spots work) cap (cap * 4) good (map .count) work work′
       → ((j : ℕ) → cap * 4 ≤ j → rowAt work″ j ≡ rowAt work′ j) → RowsTo (slopesOn f map) (map .count) xs n start cap (map .count) good (drop behind work″)
   unfolding slopesOn slopeRow
-  slopes-are {work″ = work″} behind same p stood =
+  slopes-are work″ behind same p stood =
       record {
         at = λ b k h g.
             let q = w .kept b k h g in

@@ -14,7 +14,8 @@ use crate::grid::Grid;
 use crate::places::place_axes;
 use crate::rows::slope_axes;
 use crate::rows::weigh_axes;
-use block_sums::put_gradients;
+use crate::sums::sum_gradients;
+use crate::sums::sum_slopes;
 use block_sums::put_values;
 use evaluation::Span;
 use evaluation::zero_firsts;
@@ -58,27 +59,13 @@ pub fn gradients_block(
     zero_firsts(s.m, spots);
     let good = place_axes(grid, xs, s, spots, work);
     let count = grid.count;
-    let strides = grid.strides;
     let steps = grid.steps;
     slope_axes(count, &steps, grid.linear, s.cap, good, spots, work);
-    let behind = 16 * s.cap;
     if count == 1 {
-        put_values(count, &strides, coeffs, spots, &work[behind..], s.cap, s.from, good, out);
+        sum_slopes(grid, coeffs, s, good, spots, work, out);
         return good;
     }
     weigh_axes(count, grid.linear, s.cap, good, spots, work);
-    put_gradients(
-        count,
-        &strides,
-        coeffs,
-        spots,
-        work,
-        &work[behind..],
-        s.cap,
-        s.n,
-        s.from,
-        good,
-        out,
-    );
+    sum_gradients(grid, coeffs, s, good, spots, work, out);
     good
 }

@@ -9,7 +9,7 @@ ghost use Rattle.regular_blocks.specs.Block.{Room, PlacedTo};
 use crate::grid::Grid;
 use evaluation::Span;
 use regular_axis::Points;
-use regular_axis::places;
+use regular_axis::put_places;
 
 // Axis a, for the first `good` queries.
 fn place_next(
@@ -35,7 +35,7 @@ fn place_next(
         step: steps[a],
         stride: strides[a],
     };
-    places(p, xs, a * s.n + s.from, good, s.cap * (a + 1), s.cap * a, spots, work)
+    put_places(p, xs, a * s.n + s.from, good, s.cap * (a + 1), s.cap * a, spots, work)
 }
 
 // All axes, up to the first query that some axis has no place for: how many come before it. An axis looks at the queries that the

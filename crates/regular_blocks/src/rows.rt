@@ -5,8 +5,8 @@ ghost use lib.ListN.{length};
 ghost use lib.Ieee.{binary64};
 ghost use Rattle.evaluation.specs.Block.{AxesPut};
 ghost use Rattle.regular_blocks.specs.Block.{weightRows, slopeRows};
-use regular_axis::slopes;
-use regular_axis::weights;
+use regular_axis::put_slopes;
+use regular_axis::put_weights;
 
 // The weights of m queries.
 pub fn weigh_axes(
@@ -22,7 +22,7 @@ pub fn weigh_axes(
 {
     let mut a: usize = 0;
     while a < count {
-        weights(linear, m, cap * (a + 1), cap * a, spots, work);
+        put_weights(linear, m, cap * (a + 1), cap * a, spots, work);
         a += 1;
     }
 }
@@ -42,7 +42,7 @@ pub fn slope_axes(
 {
     let mut a: usize = 0;
     while a < count {
-        slopes(linear, steps[a], m, cap * (a + 1), cap * a, cap * (4 + a), spots, work);
+        put_slopes(linear, steps[a], m, cap * (a + 1), cap * a, cap * (4 + a), spots, work);
         a += 1;
     }
 }

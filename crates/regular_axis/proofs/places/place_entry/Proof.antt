@@ -19,8 +19,8 @@ mul-spots-2 c =
 slice-read-spots : tie.Need-slice-read-spots
 slice-read-spots c = rw (length-set _ _ _) (omega (arith, c .before .before .before .before .before .before .before .before .before .before .pre .1))
 
-add-spots-2 : tie.Need-add-spots-2
-add-spots-2 c =
+add-spots : tie.Need-add-spots
+add-spots c =
     let l = c .before .before .before .before .before in
     let g = l .before .before in
     let s = g .before .before .before in
@@ -48,15 +48,13 @@ place-entry-spec =
     past-origin-requires
     (λ c. search needs)
     (λ c. search needs)
-    (λ c. search needs)
     (λ c κs. search needs)
-    (λ c. search needs)
     (λ c. search needs)
     (λ c. search needs)
     mul-spots-2
     (λ c. search needs)
     slice-read-spots
-    add-spots-2
+    add-spots
     slice-write-spots-2
     (λ c. search needs)
     (λ c. search needs)

@@ -3,8 +3,8 @@ use Prim.Native.Nat.{_-_}
 use native.Mathlib.Omega.{arith}
 use lib.Ieee.{binary64}
 use Rattle.regular_axis.proofs.Placing.{Placing, placing-start, placing-next, placing-stop, placing-done}
-use Rattle.regular_axis.proofs.places.places.Statement.{statement}
-use Rattle.regular_axis.proofs.places.places.Tie as tie
+use Rattle.regular_axis.proofs.places.put_places.Statement.{statement}
+use Rattle.regular_axis.proofs.places.put_places.Tie as tie
 
 abbrev Inv : tie.InvT-loop
 Inv p xs at m into row spots₀ work₀ k₀ spots work k = Placing binary64 (p .n) (p .start) (p .step) (p .stride) xs at m into row spots₀ work₀ spots work k
@@ -42,13 +42,15 @@ loop-again c =
     let t = p .before .before .before .before in
     placing-next binary64 _ _ _ _ _ _ _ _ _ _ _ (t .before .before .before .before .before .pre .1 .1) (t .before .loop .inv) (t .loop-test .taken) (p .place-entry .ensures) (c .if1 .left) (k .0) (k .1 .0)
 
-pub places-spec : {M : Type 1} → statement M
-places-spec =
+pub put-places-spec : {M : Type 1} → statement M
+put-places-spec =
     tie.close
     (tie.spec
     Inv
     μ
     (λ c. placing-start binary64 _ _ _ _ _ _ _ _ _ _ _)
+    (λ c. omega arith)
+    (λ c. omega arith)
     (λ c. omega arith)
     (λ c. omega arith)
     (λ c. omega arith)

@@ -1,0 +1,75 @@
+use mathlib.Core.Path.{_≡_}
+use Prim.Native.Nat.{_+_, _*_, _-_, _≤_}
+use native.Mathlib.Nat.{mul-le-mul-left}
+use native.Mathlib.Omega.{arith}
+use denote.Ref.{now}
+use lib.Ieee.{binary64}
+use Rattle.regular_blocks.proofs.Stages.{Sloping, sloping-start, sloping-next, sloping-done}
+use Rattle.regular_blocks.proofs.rows.slope_axes.Statement.{statement}
+use Rattle.regular_blocks.proofs.rows.slope_axes.Tie as tie
+
+abbrev Inv : tie.InvT-loop
+Inv count steps linear cap m spots work₀ a₀ work a = Sloping binary64 linear steps cap m count spots work₀ work a
+
+abbrev μ : tie.MeasureT-loop
+μ count steps linear cap m spots work₀ a₀ work a = count - a
+
+in-four : tie.Need-element-copy-out-put-slopes Inv μ
+in-four c = omega (arith, c .loop-test .taken, c .before .before .before .before .pre .0)
+
+mul-put-slopes-2 : tie.Need-mul-put-slopes-2 Inv μ
+mul-put-slopes-2 c =
+    let t = c .before in
+    let s = t .before .before .before .before in
+    omega (arith, mul-le-mul-left (s .args .cap) (t .loop-test .taken), s .pre .2)
+
+mul-put-slopes-3 : tie.Need-mul-put-slopes-3 Inv μ
+mul-put-slopes-3 c =
+    let t = c .before in
+    let s = t .before .before .before .before in
+    omega (arith, mul-le-mul-left (s .args .cap) (t .loop-test .taken), s .pre .2)
+
+mul-put-slopes-4 : tie.Need-mul-put-slopes-4 Inv μ
+mul-put-slopes-4 c =
+    let t = c .before in
+    let s = t .before .before .before .before in
+    omega (arith, mul-le-mul-left (s .args .cap) (t .loop-test .taken), s .pre .2)
+
+put-slopes-requires : tie.Need-put-slopes-requires Inv μ
+put-slopes-requires c κs =
+    let t = c .before .before in
+    let s = t .before .before .before .before in
+    let cap = s .args .cap in
+    let below = mul-le-mul-left cap (t .loop-test .taken) in
+    let apart : cap * 4 + cap * t .before .loop .a ≡ cap * (4 + t .before .loop .a) = omega arith in
+    let four = mul-le-mul-left cap (let q : t .before .loop .a + 1 ≤ 4 = omega (arith, t .loop-test .taken, s .pre .0) in q) in
+    let behind = mul-le-mul-left cap (let q : 4 + t .before .loop .a + 1 ≤ 4 + s .args .count = omega (arith, t .loop-test .taken) in q) in
+    (omega (arith, below, s .pre .1, s .pre .2), omega (arith, four, apart, s .pre .1), omega (arith, behind, s .pre .1, s .pre .3, t .before .loop .inv .length-work))
+
+loop-again : tie.Need-loop-again Inv μ
+loop-again c =
+    let p = c .before .before in
+    let t = p .before .before .before in
+    let s = t .before .before .before .before in
+    sloping-next binary64 _ _ _ _ _ _ _ (t .before .loop .inv) (t .loop-test .taken) (s .pre .0) (s .pre .1) (p .put-slopes .ensures) (p .put-slopes .kept .1 .1 .1 .1 .1 .1 .1 .0)
+
+pub slope-axes-spec : {M : Type 1} → statement M
+slope-axes-spec =
+    tie.close
+    (tie.spec
+    Inv
+    μ
+    (λ c. sloping-start binary64 _ _ _ _ _ _ _)
+    (λ c. omega arith)
+    in-four
+    (λ c. omega arith)
+    mul-put-slopes-2
+    mul-put-slopes-3
+    (λ c. omega arith)
+    mul-put-slopes-4
+    put-slopes-requires
+    (λ c. omega arith)
+    (λ c. omega arith)
+    loop-again
+    (λ c. c .before .loop .inv .length-work)
+    (λ c. sloping-done binary64 _ _ _ _ _ _ _ (c .before .loop .inv) (c .loop-test .left)))
