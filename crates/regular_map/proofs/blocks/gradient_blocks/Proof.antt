@@ -26,13 +26,13 @@ gradients-block-requires c κs =
     let w = t .before .before .loop .inv in
     let s = t .before .before .before .before .before .before .before .before in (
       (s .pre .0 .0, s .pre .0 .1, omega (arith, w .0 .length-out, s .pre .1 .1)),
-      record {
+      (record {
         block = b .1;
         batch = b .2;
         coordinates = s .pre .1 .0;
         in-spots = omega (arith, s .pre .0 .0 .shape .at-most-four, s .pre .1 .2, w .1 .0);
         in-work = omega (arith, s .pre .0 .0 .shape .at-most-four, s .pre .1 .3, w .1 .1);
-      },
+      }, omega (arith, s .pre .0 .0 .shape .at-most-four, s .pre .1 .3, w .1 .1)),
     )
 
 returns : tie.Need-returns Inv μ
@@ -46,7 +46,7 @@ loop-again c =
     let p = c .before .before .before .before .before .before .before in
     let t = p .before .before .before .before in
     let w = t .before .before .loop .inv in
-    let k = p .gradients-block .kept .1 .1 .1 .1 .1 .1 .1 in
+    let k = p .gradients-block .kept .1 .1 .1 .1 in
     (block-next _ _ _ (w .0) (t .block-size .ensures .2) (p .gradients-block .ensures) (k .1 .1 .0) (c .if1 .left), (k .0 ∙ w .1 .0, k .1 .0 ∙ w .1 .1))
 
 pub gradient-blocks-spec : {M : Type 1} → statement M
@@ -58,9 +58,9 @@ gradient-blocks-spec =
     (λ c. (running-start _ _ _, (refl, refl)))
     (λ c κs. c .loop-test .taken)
     gradients-block-requires
-    (λ c. let p = c .before .before .before .before .before .before .before in p .gradients-block .kept .1 .1 .1 .1 .1 .1 .1 .0 ∙ p .before .before .before .before .before .before .loop .inv .1 .0)
-    (λ c. let p = c .before .before .before .before .before .before .before in p .gradients-block .kept .1 .1 .1 .1 .1 .1 .1 .1 .0 ∙ p .before .before .before .before .before .before .loop .inv .1 .1)
-    (λ c. let p = c .before .before .before .before .before .before .before in p .gradients-block .kept .1 .1 .1 .1 .1 .1 .1 .1 .1 .0 ∙ p .before .before .before .before .before .before .loop .inv .0 .length-out)
+    (λ c. let p = c .before .before .before .before .before .before .before in p .gradients-block .kept .1 .1 .1 .1 .0 ∙ p .before .before .before .before .before .before .loop .inv .1 .0)
+    (λ c. let p = c .before .before .before .before .before .before .before in p .gradients-block .kept .1 .1 .1 .1 .1 .0 ∙ p .before .before .before .before .before .before .loop .inv .1 .1)
+    (λ c. let p = c .before .before .before .before .before .before .before in p .gradients-block .kept .1 .1 .1 .1 .1 .1 .0 ∙ p .before .before .before .before .before .before .loop .inv .0 .length-out)
     returns
     (λ c. omega (arith, c .before .before .before .before .before .before .before .before .before .before .before .block-size .ensures .2))
     (λ c. omega (arith, c .before .before .before .before .before .before .before .before .before .before .before .block-size .ensures .0, c .before .before .before .before .before .before .before .before .before .before .before .before .loop-test .taken))

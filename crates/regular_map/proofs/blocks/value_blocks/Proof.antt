@@ -46,7 +46,7 @@ loop-again c =
     let p = c .before .before .before .before .before .before .before in
     let t = p .before .before .before .before in
     let w = t .before .before .loop .inv in
-    let k = p .values-block .kept .1 .1 .1 .1 .1 .1 .1 in
+    let k = p .values-block .kept .1 .1 .1 .1 in
     (block-next _ _ _ (w .0) (t .block-size .ensures .2) (p .values-block .ensures) (k .1 .1 .0) (c .if1 .left), (k .0 ∙ w .1 .0, k .1 .0 ∙ w .1 .1))
 
 pub value-blocks-spec : {M : Type 1} → statement M
@@ -58,9 +58,9 @@ value-blocks-spec =
     (λ c. (running-start _ _ _, (refl, refl)))
     (λ c κs. c .loop-test .taken)
     values-block-requires
-    (λ c. let p = c .before .before .before .before .before .before .before in p .values-block .kept .1 .1 .1 .1 .1 .1 .1 .0 ∙ p .before .before .before .before .before .before .loop .inv .1 .0)
-    (λ c. let p = c .before .before .before .before .before .before .before in p .values-block .kept .1 .1 .1 .1 .1 .1 .1 .1 .0 ∙ p .before .before .before .before .before .before .loop .inv .1 .1)
-    (λ c. let p = c .before .before .before .before .before .before .before in p .values-block .kept .1 .1 .1 .1 .1 .1 .1 .1 .1 .0 ∙ p .before .before .before .before .before .before .loop .inv .0 .length-out)
+    (λ c. let p = c .before .before .before .before .before .before .before in p .values-block .kept .1 .1 .1 .1 .0 ∙ p .before .before .before .before .before .before .loop .inv .1 .0)
+    (λ c. let p = c .before .before .before .before .before .before .before in p .values-block .kept .1 .1 .1 .1 .1 .0 ∙ p .before .before .before .before .before .before .loop .inv .1 .1)
+    (λ c. let p = c .before .before .before .before .before .before .before in p .values-block .kept .1 .1 .1 .1 .1 .1 .0 ∙ p .before .before .before .before .before .before .loop .inv .0 .length-out)
     returns
     (λ c. omega (arith, c .before .before .before .before .before .before .before .before .before .before .before .block-size .ensures .2))
     (λ c. omega (arith, c .before .before .before .before .before .before .before .before .before .before .before .block-size .ensures .0, c .before .before .before .before .before .before .before .before .before .before .before .before .loop-test .taken))

@@ -1,47 +1,25 @@
+use mathlib.Core.Path.{refl}
+use native.Mathlib.Omega.{arith}
+use lib.Ieee.{ofBits}
 use borrow.Author.Needs.{needs}
+use Rattle.evaluation.proofs.Singles.{single-gradient, single-gradient-refused}
 use Rattle.regular_map.proofs.single.gradient_at.Statement.{statement}
 use Rattle.regular_map.proofs.single.gradient_at.Tie as tie
-use Rattle.regular_map.proofs.single.gradient_at.Reads as reads
-use Rattle.regular_map.proofs.single.gradient_at.Lts as lts
-use Rattle.evaluation.proofs.refused_gradient.Reads as refused-gradient-reads
-use Rattle.regular_blocks.proofs.gradients_block.Reads as gradients-block-reads
 
--- src/single.rt:58:52
-slice-aggregate-gradients-block : tie.Need-slice-aggregate-gradients-block
-slice-aggregate-gradients-block c = search needs
-
--- src/single.rt:58:64
-slice-aggregate-gradients-block-2 : tie.Need-slice-aggregate-gradients-block-2
-slice-aggregate-gradients-block-2 c = search needs
-
--- src/single.rt:58:75
-slice-aggregate-gradients-block-3 : tie.Need-slice-aggregate-gradients-block-3
-slice-aggregate-gradients-block-3 c = search needs
-
--- src/single.rt:58:9
 gradients-block-requires : tie.Need-gradients-block-requires
-gradients-block-requires c κs = ?
+gradients-block-requires c κs =
+    let s = c .before .before .before .before .before in
+    let few = s .pre .0 .shape .at-most-four in (
+      (s .pre .0, s .pre .1, omega (arith, few)),
+      (record { block = omega arith; batch = omega arith; coordinates = omega (arith, s .pre .2); in-spots = omega (arith, few); in-work = omega (arith, few) }, omega (arith, few)),
+    )
 
--- src/single.rt:60:9
-refused-gradient-requires : tie.Need-refused-gradient-requires
-refused-gradient-requires c κs = search needs
-
--- src/single.rt:60:9
 returns : tie.Need-returns
-returns c = ?
+returns c = single-gradient-refused _ _ (c .before .before .before .before .before .gradients-block .ensures) (c .before .if1 .taken) (c .refused-gradient .ensures .0) (c .refused-gradient .ensures .1)
 
--- src/single.rt:45:1
 returns-2 : tie.Need-returns-2
-returns-2 c = ?
+unfolding ofBits
+returns-2 c = single-gradient _ _ (c .before .before .before .before .before .before .before .before .before .before .pre .0 .shape .at-most-four) refl (c .before .before .before .before .gradients-block .ensures) (c .if1 .left)
 
 pub gradient-at-spec : {M : Type 1} → statement M
-gradient-at-spec =
-    tie.close
-    (tie.spec
-    slice-aggregate-gradients-block
-    slice-aggregate-gradients-block-2
-    slice-aggregate-gradients-block-3
-    gradients-block-requires
-    refused-gradient-requires
-    returns
-    returns-2)
+gradient-at-spec = tie.close (tie.spec (λ c. search needs) (λ c. search needs) (λ c. search needs) gradients-block-requires (λ c κs. search needs) returns returns-2)
