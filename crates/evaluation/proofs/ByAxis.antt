@@ -133,10 +133,10 @@ rows-of : (row : List Float → ℕ → List Float) (count : ℕ) (xs : List Flo
 rows-of row count xs n start cap table w few k g = weights-on table cap k few (λ a h. w .at a k h g)
 
 module _ (m : ByAxis) (xs : List Float) (n start q : ℕ) {good : ℕ} {firsts : List ℕ} (w : FirstsTo m xs n start q (m .count) good firsts) where
-  entry-good : (k : ℕ) → k < good → refuses m (query (m .count) xs n (start + k)) ≡ false
+  pub entry-good : (k : ℕ) → k < good → refuses m (query (m .count) xs n (start + k)) ≡ false
   entry-good k h = has-place m _ (w .placed k h)
 
-  entry-stops : good < q → refuses m (query (m .count) xs n (start + good)) ≡ true
+  pub entry-stops : good < q → refuses m (query (m .count) xs n (start + good)) ≡ true
   entry-stops h = no-place m _ (w .refused h)
 
   pub entries-reach : Roomy m → {ss : List ℕ} {coefs : ℕ} → ss ≡ strides (m .count) (m .lens) → coefs ≡ size (take (m .count) (m .lens)) → Firsts firsts good (reach ss) coefs

@@ -23,7 +23,7 @@ use Rattle.evaluation.proofs.Weighed.{block-coordinate, block-inside, block-roo
 use Rattle.regular_axis.specs.Axis.{satOf, Axis, Places, weightRow, slopeRow}
 use Rattle.regular_blocks.specs.Map.{RegularMap}
 use Rattle.regular_blocks.specs.Eval.{isUnrepresentable, locOn, weightsOn, slopesOn, regularAxes}
-use Rattle.regular_blocks.specs.Block.{Room, Kept, PlacedTo, weightRows, slopeRows}
+use Rattle.regular_blocks.specs.Block.{Room, AxisRoom, Kept, PlacedTo, weightRows, slopeRows}
 use Rattle.regular_blocks.proofs.Room.{roomy}
 
 -- ---- an axis of an accepted map
@@ -35,12 +35,6 @@ axis-ready {count} {lens} {ss} a r h =
     record { four = small .0; few = small .1; cells = rw (stride-at a r h, ← points-are count lens (r .four) u a h) (room count lens (r .four) u a h .row-small) }
 
 -- what is lent is long enough for it
-pub record AxisRoom (a n start cap good xs spots work : ℕ) : Type 0 where
-  pub coordinates : a * n + start + good ≤ xs
-  pub apart : good ≤ cap * (a + 1)
-  pub in-spots : cap * (a + 1) + good ≤ spots
-  pub in-work : 4 * (cap * a + good) ≤ work
-
 pub axis-room : {count n start cap m xs spots work : ℕ} → Room count n start cap m xs spots work → (a good : ℕ) → a < count → good ≤ m → AxisRoom a n start cap good xs spots work
 axis-room {count} {cap = cap} w a good h k =
     let here : cap * suc a ≤ cap * count = mul-le-mul-left cap h in

@@ -24,6 +24,13 @@ pub record Room (count n start cap m xs spots work : ℕ) : Type 0 where
   pub in-spots : cap * (count + 1) ≤ spots
   pub in-work : 4 * (cap * count) ≤ work
 
+-- and so for axis a, of which `good` queries are looked at
+pub record AxisRoom (a n start cap good xs spots work : ℕ) : Type 0 where
+  pub coordinates : a * n + start + good ≤ xs
+  pub apart : good ≤ cap * (a + 1)
+  pub in-spots : cap * (a + 1) + good ≤ spots
+  pub in-work : 4 * (cap * a + good) ≤ work
+
 -- of query x on axis a: the number of its place, and how far it lies past the point after its origin
 pub record Kept (f : Format) (map : RegularMap) (x : List Float) (a number : ℕ) (t : Float) : Type 0 where
   pub origin : ℕ

@@ -12,3 +12,6 @@ pub record RegularMap : Type 0 where
   pub starts : List Float
   pub steps : List Float
   pub linear : Bool
+
+abbrev pub mapFrom : ℕ → List ℕ → List Float → List Float → Bool → RegularMap
+mapFrom count lens starts steps linear = record { count = count; lens = lens; starts = starts; steps = steps; linear = linear }

@@ -34,10 +34,13 @@ pub fn values_block(
     requires { ⌜ Room (grid .count) (s .n) (s .from) (s .cap) (s .m) (length (now xs)) (length (now spots)) (length (now work)) ⌝ }
     ensures { λ r. ⌜ Block (badAt (regular binary64 (mapOf grid) (now (coeffs .entry))) (now (xs .entry)) (s .n)) (valueStep (regular binary64 (mapOf grid) (now (coeffs .entry))) (now (xs .entry)) (s .n)) (s .from) (s .m) (now (out .entry)) r (now (out .exit)) ⌝ }
 {
-    zero_firsts(s.m, spots);
-    let good = place_axes(grid, xs, s, spots, work);
-    weigh_axes(grid.count, grid.linear, s.cap, good, spots, work);
+    let dims = grid.dims;
     let strides = grid.strides;
+    let starts = grid.starts;
+    let steps = grid.steps;
+    zero_firsts(s.m, spots);
+    let good = place_axes(grid.count, &dims, &strides, &starts, &steps, xs, s, spots, work);
+    weigh_axes(grid.count, grid.linear, s.cap, good, spots, work);
     put_values(grid.count, &strides, coeffs, spots, work, s.cap, s.from, good, out);
     good
 }
@@ -56,16 +59,19 @@ pub fn gradients_block(
     requires { ⌜ Room (grid .count) (s .n) (s .from) (s .cap) (s .m) (length (now xs)) (length (now spots)) (length (now work)) × (4 * (s .cap * (4 + grid .count)) ≤ length (now work)) ⌝ }
     ensures { λ r. ⌜ Block (badAt (regular binary64 (mapOf grid) (now (coeffs .entry))) (now (xs .entry)) (s .n)) (gradientStep (regular binary64 (mapOf grid) (now (coeffs .entry))) (now (xs .entry)) (s .n)) (s .from) (s .m) (now (out .entry)) r (now (out .exit)) ⌝ }
 {
-    zero_firsts(s.m, spots);
-    let good = place_axes(grid, xs, s, spots, work);
     let count = grid.count;
+    let dims = grid.dims;
+    let strides = grid.strides;
+    let starts = grid.starts;
     let steps = grid.steps;
+    zero_firsts(s.m, spots);
+    let good = place_axes(count, &dims, &strides, &starts, &steps, xs, s, spots, work);
     slope_axes(count, &steps, grid.linear, s.cap, good, spots, work);
     if count == 1 {
-        sum_slopes(grid, coeffs, s, good, spots, work, out);
+        sum_slopes(count, &strides, coeffs, s, good, spots, work, out);
         return good;
     }
     weigh_axes(count, grid.linear, s.cap, good, spots, work);
-    sum_gradients(grid, coeffs, s, good, spots, work, out);
+    sum_gradients(count, &strides, coeffs, s, good, spots, work, out);
     good
 }

@@ -1,21 +1,20 @@
 // The sums of the gradients of a block, by rows whose slopes stand behind the weights of four axes.
 ghost use mathlib.Core.Path.{_≡_};
-ghost use Prim.Native.Nat.{_+_, _*_, _≤_};
+ghost use Prim.Native.Nat.{_+_, _*_, _-_, _≤_};
 ghost use lib.ListN.{length, getD, set, drop};
 ghost use lib.Ieee.{binary64};
 ghost use Rattle.shape.specs.Cells.{put};
 ghost use Rattle.interp_math.specs.Sum.{summed, gradientPart};
 ghost use Rattle.evaluation.specs.Batch.{written};
 ghost use Rattle.evaluation.specs.Block.{weightsOf, Firsts, reach};
-ghost use Rattle.regular_blocks.specs.Records.{Accepted};
-use crate::grid::Grid;
 use block_sums::put_gradients;
 use block_sums::put_values;
 use evaluation::Span;
 
 // Over one axis: the slopes take the place of the weights.
 pub fn sum_slopes(
-    grid: Grid,
+    count: usize,
+    strides: &[usize; 4],
     coeffs: &[f64],
     s: Span,
     good: usize,
@@ -23,18 +22,18 @@ pub fn sum_slopes(
     rows: &[f64],
     out: &mut [f64],
 )
-    requires { ⌜ Accepted grid × (good ≤ s .cap) × (s .from + good ≤ length (now out)) × (good ≤ length (now spots)) ⌝ }
-    requires { ⌜ (4 * (s .cap * (4 + grid .count)) ≤ length (now rows)) × Firsts (now spots) good (reach (grid .strides)) (length (now coeffs)) ⌝ }
-    ensures { λ _. ⌜ now (out .exit) ≡ written (λ k o. set o (s .from + k) (summed binary64 (now (coeffs .entry)) (grid .strides) (weightsOf (drop (16 * s .cap) (now (rows .entry))) (s .cap) k) (grid .count) (getD (now (spots .entry)) k 0))) good (now (out .entry)) ⌝ }
+    requires { ⌜ (1 ≤ count) × (count ≤ 4) × (getD (now strides) (count - 1) 0 ≡ 1) × (good ≤ s .cap) × (s .from + good ≤ length (now out)) × (good ≤ length (now spots)) ⌝ }
+    requires { ⌜ (4 * (s .cap * (4 + count)) ≤ length (now rows)) × Firsts (now spots) good (reach (now strides)) (length (now coeffs)) ⌝ }
+    ensures { λ _. ⌜ now (out .exit) ≡ written (λ k o. set o (s .from + k) (summed binary64 (now (coeffs .entry)) (now (strides .entry)) (weightsOf (drop (16 * s .cap) (now (rows .entry))) (s .cap) k) count (getD (now (spots .entry)) k 0))) good (now (out .entry)) ⌝ }
 {
-    let strides = grid.strides;
     let behind = 16 * s.cap;
-    put_values(grid.count, &strides, coeffs, spots, &rows[behind..], s.cap, s.from, good, out);
+    put_values(count, strides, coeffs, spots, &rows[behind..], s.cap, s.from, good, out);
 }
 
 // Over two axes or more: part j of entry i at j n + i.
 pub fn sum_gradients(
-    grid: Grid,
+    count: usize,
+    strides: &[usize; 4],
     coeffs: &[f64],
     s: Span,
     good: usize,
@@ -42,15 +41,14 @@ pub fn sum_gradients(
     rows: &[f64],
     out: &mut [f64],
 )
-    requires { ⌜ Accepted grid × (2 ≤ grid .count) × (good ≤ s .cap) × (s .from + good ≤ s .n) × (grid .count * s .n ≤ length (now out)) × (good ≤ length (now spots)) ⌝ }
-    requires { ⌜ (4 * (s .cap * (4 + grid .count)) ≤ length (now rows)) × Firsts (now spots) good (reach (grid .strides)) (length (now coeffs)) ⌝ }
-    ensures { λ _. ⌜ now (out .exit) ≡ written (λ k o. put (λ j. j * s .n + (s .from + k)) (λ j. gradientPart binary64 (now (coeffs .entry)) (grid .strides) (weightsOf (now (rows .entry)) (s .cap) k) (weightsOf (drop (16 * s .cap) (now (rows .entry))) (s .cap) k) (grid .count) (getD (now (spots .entry)) k 0) j) (grid .count) o) good (now (out .entry)) ⌝ }
+    requires { ⌜ (2 ≤ count) × (count ≤ 4) × (getD (now strides) (count - 1) 0 ≡ 1) × (good ≤ s .cap) × (s .from + good ≤ s .n) × (count * s .n ≤ length (now out)) × (good ≤ length (now spots)) ⌝ }
+    requires { ⌜ (4 * (s .cap * (4 + count)) ≤ length (now rows)) × Firsts (now spots) good (reach (now strides)) (length (now coeffs)) ⌝ }
+    ensures { λ _. ⌜ now (out .exit) ≡ written (λ k o. put (λ j. j * s .n + (s .from + k)) (λ j. gradientPart binary64 (now (coeffs .entry)) (now (strides .entry)) (weightsOf (now (rows .entry)) (s .cap) k) (weightsOf (drop (16 * s .cap) (now (rows .entry))) (s .cap) k) count (getD (now (spots .entry)) k 0) j) count o) good (now (out .entry)) ⌝ }
 {
-    let strides = grid.strides;
     let behind = 16 * s.cap;
     put_gradients(
-        grid.count,
-        &strides,
+        count,
+        strides,
         coeffs,
         spots,
         rows,

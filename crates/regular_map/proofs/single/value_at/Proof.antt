@@ -1,22 +1,58 @@
+use mathlib.Core.Path.{_≡_, refl}
 use native.Mathlib.Omega.{arith}
+use denote.Ref.{now}
+use lib.Ieee.{binary64}
 use borrow.Author.Needs.{needs}
-use Rattle.evaluation.proofs.Singles.{single-value, single-refused}
+use Rattle.evaluation.proofs.ByAxis.{entries-reach, entry-stops, block-values}
+use Rattle.evaluation.proofs.Entries.{last-stride}
+use Rattle.evaluation.proofs.Outcomes.{value-refused}
+use Rattle.evaluation.proofs.Singles.{single-value}
+use Rattle.regular_blocks.proofs.Room.{roomy}
+use Rattle.regular_blocks.proofs.Stages.{weights-are}
 use Rattle.regular_map.proofs.single.value_at.Statement.{statement}
 use Rattle.regular_map.proofs.single.value_at.Tie as tie
 
-values-block-requires : tie.Need-values-block-requires
-values-block-requires c κs =
-    let s = c .before .before .before .before .before in
+place-axes-requires : tie.Need-place-axes-requires
+place-axes-requires c κs =
+    let s = c .before .before .before .before .before .before .before .before .before .before .before .before in
     let few = s .pre .0 .shape .at-most-four in (
-      (s .pre .0, s .pre .1, omega arith),
-      record { block = omega arith; batch = omega arith; coordinates = omega (arith, s .pre .2); in-spots = omega (arith, few); in-work = omega (arith, few) },
+      (s .pre .0, record { block = omega arith; batch = omega arith; coordinates = omega (arith, s .pre .2); in-spots = omega (arith, few); in-work = omega (arith, few) }),
+      (λ k h. let e : k ≡ 0 = omega arith in rw e refl),
     )
 
 returns : tie.Need-returns
-returns c = single-refused _ _ (c .before .before .before .before .values-block .ensures) (c .if1 .taken)
+returns c =
+    let s = c .before .before .before .before .before .before .before .before .before .before .before .before .before .before .before .before in
+    let w = c .before .before .before .place-axes .ensures (s .args .grid .linear) .firsts in
+    let none : c .before .before .before .place-axes .result ≡ 0 = omega (arith, c .if1 .taken) in
+    value-refused _ _ (rw none at (entry-stops _ _ _ _ _ w (c .if1 .taken)))
+
+weigh-axes-requires : tie.Need-weigh-axes-requires
+weigh-axes-requires c κs =
+    let s = c .before .before .before .before .before .before .before .before .before .before .before .before .before .before .before .before .before .before in
+    let g = c .before .before .before .before .before .place-axes in
+    let few = s .pre .0 .shape .at-most-four in
+    (g .ensures (s .args .grid .linear) .firsts .most, omega (arith, few, g .kept .1 .1 .1 .1 .1 .1 .1 .0), omega (arith, few, g .kept .1 .1 .1 .1 .1 .1 .1 .1 .0))
+
+put-values-requires : tie.Need-put-values-requires
+put-values-requires c κs =
+    let s = c .before .before .before .before .before .before .before .before .before .before .before .before .before .before .before .before .before .before .before .before .before .before .before .before in
+    let r = s .pre .0 in
+    let few = r .shape .at-most-four in
+    let g = c .before .before .before .before .before .before .before .before .before .before .before .place-axes in
+    let v = c .before .before .before .before .before .weigh-axes in
+    let w = g .ensures (s .args .grid .linear) .firsts in
+    (r .shape .some-axis, few, last-stride r, w .most, omega (arith, w .most, g .kept .1 .1 .1 .1 .1 .1 .1 .0), omega (arith, few, g .kept .1 .1 .1 .1 .1 .1 .1 .1 .0, v .kept .1 .1 .1 .1 .1 .0), omega (arith, w .most), entries-reach _ _ _ _ _ w (roomy binary64 _ (r .four) (r .shape)) (r .strides-are) (s .pre .1))
 
 returns-2 : tie.Need-returns-2
-returns-2 c = single-value _ _ (c .before .before .before .before .values-block .ensures) (omega arith) (c .if1 .left)
+returns-2 c =
+    let s = c .before .before .before .before .before .before .before .before .before .before .before .before .before .before .before .before .before .before .before .before .before .before .before .before .before .before in
+    let r = s .pre .0 in
+    let w = c .before .before .before .before .before .before .before .before .before .before .before .before .before .place-axes .ensures (s .args .grid .linear) in
+    let b = block-values _ _ _ _ _ (w .firsts) binary64 _ (now (s .args .coeffs)) (r .strides-are) (r .shape .at-most-four) _ (weights-are binary64 _ _ _ _ _ _ _ w (c .before .before .before .before .before .before .before .weigh-axes .ensures)) (c .before .put-values .ensures) in
+    single-value _ _ b (omega arith) (c .before .before .before .before .before .before .before .before .before .before .if1 .left)
 
 pub value-at-spec : {M : Type 1} → statement M
-value-at-spec = tie.close (tie.spec (λ c. search needs) (λ c. search needs) (λ c. search needs) values-block-requires returns (λ c. search needs) returns-2)
+value-at-spec =
+    tie.close
+    (tie.spec (λ c. search needs) (λ c. search needs) place-axes-requires returns (λ c. search needs) (λ c. search needs) weigh-axes-requires (λ c. search needs) (λ c. search needs) (λ c. search needs) put-values-requires (λ c. search needs) returns-2)
