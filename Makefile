@@ -43,7 +43,7 @@ SANITIZERS = -fsanitize=address,undefined -fno-sanitize-recover=all -O1 -g
 MEMCHECK = $(VALGRIND) --quiet --error-exitcode=99 --leak-check=full --errors-for-leak-kinds=all
 
 .PHONY: all help examples shared install uninstall sanitize memcheck clean
-.PHONY: test test-header test-symbols test-c test-install test-rust test-python test-differences
+.PHONY: test test-house test-header test-symbols test-c test-install test-rust test-python test-differences
 .DELETE_ON_ERROR:
 
 all: $(LIBRARY)
@@ -54,7 +54,7 @@ help:
 	@echo "make examples    the C examples, in $(BIN)"
 	@echo "make install     header, library and pkg-config file, under DESTDIR and PREFIX ($(PREFIX))"
 	@echo "make uninstall   removes them"
-	@echo "make test        header, C, Rust and Python tests, and the rows of docs/DIFFERENCES.md"
+	@echo "make test        header, C, Rust and Python tests, docs/PROMISES.md, and the rows of docs/DIFFERENCES.md"
 	@echo "make sanitize    the C tests with the address and undefined-behaviour sanitizers"
 	@echo "make memcheck    the C tests under valgrind"
 	@echo "make clean       removes $(OUT)"
@@ -118,7 +118,12 @@ uninstall:
 
 # ---- tests
 
-test: test-header test-symbols test-c test-install test-rust test-python test-differences
+test: test-house test-header test-symbols test-c test-install test-rust test-python test-differences
+
+# The sources against docs/PROMISES.md and the house's limits. The limits are printed without --check: they are not all met yet.
+test-house:
+	$(PYTHON) tools/promises.py --check
+	$(PYTHON) tools/house.py
 
 # The header by itself, in both languages: it needs nothing to be included before it.
 test-header:
