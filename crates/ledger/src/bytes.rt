@@ -113,8 +113,8 @@ fn set_bytes(base: usize, stride: usize, n: usize, v: u8, ledger: &mut [u8])
     }
 }
 
-// 1 more in each byte of a line of an axis that is due. Each of them is the axis's number, so that none has to be read: cells
-// that are 4,096 bytes apart, read and written by turns, would make the processor wait at each.
+// 1 more in each byte of a line of an axis that is due. Each of them is the axis's number, so that none is read: where they
+// fall on the same lines of the cache, reading and writing them by turns takes twice as long as writing them.
 pub fn bump_line(axis: usize, found: Line, ledger: &mut [u8])
     requires { ⌜ (axis < 4) × LineInside found (length (now ledger)) × EachByte axis found (now ledger) ⌝ }
     ensures { λ _. ⌜ now (ledger .exit) ≡ writeLine (found .base) (found .stride) (oneMore (found .base) (found .stride) (now (ledger .entry))) (found .n) (now (ledger .entry)) ⌝ }

@@ -16,7 +16,7 @@ returns-2 c =
     let i = c .before .before in
     let s = i .before in
     let a = s .args in
-    no-line (a .count) (a .t2) (omega (arith, s .good)) (s .pre) (a .axis) (a .line) (i .if1 .left) (c .before .lines-of .ensures) (c .if2 .taken)
+    no-line (a .count) (a .t2) (omega (arith, s .good)) (s .pre) (a .axis) (a .line) (i .if1 .left) (c .before .lines-of .ensures) (omega (arith, c .if2 .taken))
 
 first-cell-of-requires : tie.Need-first-cell-of-requires
 first-cell-of-requires c κs =
