@@ -45,21 +45,21 @@ pub fn fit<const N: usize>(map: Map<N>) -> Pair {
 }
 
 // Line 0 of axis 0: its samples are put into place, its ledger bytes zeroed, and it is solved. The Rust has no such call;
-// what it does is a fit of one axis as long as that.
+// what it does is a fit of one axis as long as that. For both the samples of the line stand in one piece.
 pub fn line<const N: usize>(map: Map<N>) -> Pair {
     let (n, lent, all) = (map.dims[0], map.lent(), map.samples);
     let stride = map.samples.len() / n;
+    let samples: Vec<f64> = (0..n).map(|i| all[i * stride]).collect();
     let mut coefs = all.to_vec();
-    let (mut ledger, mut scratch) = (vec![0; all.len()], map.scratch());
+    let (mut ledger, mut scratch, line) = (vec![0; all.len()], map.scratch(), samples.clone());
     let library = move || {
-        for i in 0..n {
-            coefs[i * stride] = all[i * stride];
+        for (i, &sample) in line.iter().enumerate() {
+            coefs[i * stride] = sample;
             ledger[i * stride] = 0;
         }
         let answer = lent.line(0, 0, black_box(&mut coefs), black_box(&mut ledger), &mut scratch);
         assert_eq!(answer, 0);
     };
-    let samples: Vec<f64> = (0..n).map(|i| all[i * stride]).collect();
     let (mut coefs, mut scratch) = (vec![0.0; n], vec![0.0; 2 * n]);
     let knots = if map.rectilinear { Some([map.knots()[0]]) } else { None };
     let rust = move || {

@@ -36,30 +36,15 @@ const SINGLES: usize = 8;
 // The order of MOST: each axis count comes early, with exactly the most points.
 const ORDER: [usize; 14] = [0, 2, 6, 9, 3, 7, 10, 1, 4, 5, 8, 11, 12, 13];
 
-// A line call on a rectilinear map looks at every knot: a list that looks at more than these takes hours and is not drawn.
-const LOOKS: u64 = 1 << 35;
-
-// How many knots a complete list on a rectilinear map of this shape looks at.
-fn looks(dims: &[u64]) -> u64 {
-    let points: u64 = dims.iter().product();
-    let lines: u64 = dims.iter().map(|n| points / n).sum();
-    lines * dims.iter().sum::<u64>()
-}
-
-// The shape for a list: as in turn, or the next one that a list can be made on.
-fn listed(turn: usize, rectilinear: bool) -> &'static [u64] {
-    let mut shapes = (turn..).map(|turn| MOST[ORDER[turn % ORDER.len()]]);
-    shapes.find(|dims| !rectilinear || looks(dims) <= LOOKS).expect("some shape has few knots")
-}
-
 // In turn: every shape of MOST on both grids, fitted and evaluated; between them lists of line calls, and maps too large.
 pub fn draw(random: &mut Random, turn: u64) -> Box<dyn Case> {
     let (kind, turn) = (turn % 4, turn as usize / 4);
     let rectilinear = kind % 2 == 1;
+    let shape = |turn: usize| MOST[ORDER[turn % ORDER.len()]];
     match kind {
-        0 | 1 => Box::new(BigFit::draw(random, MOST[ORDER[turn % ORDER.len()]], rectilinear)),
+        0 | 1 => Box::new(BigFit::draw(random, shape(turn), rectilinear)),
         _ if turn % 3 == 2 => Box::new(Over { subject: over(random, OVER[turn / 3 % OVER.len()], rectilinear) }),
-        _ => Box::new(BigList::draw(random, listed(turn - turn / 3, rectilinear), rectilinear)),
+        _ => Box::new(BigList::draw(random, shape(turn - turn / 3), rectilinear)),
     }
 }
 

@@ -8,8 +8,6 @@ use Rattle.shape.specs.Checks.{Check, firstRefusal, shapeChecks, scratchCheck, 
 use Rattle.shape.proofs.Checks.{length-passes, length-passed, scratch-passed}
 use Rattle.shape.proofs.Accepted.{passed-append, prefix-passed, both-passed, accepted-append}
 use Rattle.book.specs.LineCall.{Call, State, dueChecks, beginChecks, beginAnswer, callChecks, callAnswer}
-use Rattle.book.specs.Due.{DueBytes}
-use Rattle.book.proofs.Bytes.{due-bytes}
 
 -- ---- begin, and a line call
 
@@ -24,13 +22,6 @@ pub record BeginPassed (count : ℕ) (lens : List ℕ) (grid knots : List Check)
   pub coefs-size : coefs ≡ size (take count lens)
   pub ledger-size : ledger ≡ size (take count lens)
   pub scratch-room : 2 * longest (take count lens) ≤ scratch
-
-pub record CallPassed {A : Type 0} (count : ℕ) (lens : List ℕ) (grid knots : List Check) (call : Call A) (state : State A) : Type 0 where
-  pub ready : Ready count lens grid knots
-  pub coefs-size : length (state .coefs) ≡ size (take count lens)
-  pub ledger-size : length (state .ledger) ≡ size (take count lens)
-  pub scratch-room : 2 * longest (take count lens) ≤ length (call .scratch)
-  pub due : DueBytes (take count lens) (call .axis) (call .line) (state .ledger)
 
 module _ (count : ℕ) (lens : List ℕ) (grid knots : List Check) (pg : Positive grid) (pk : Positive knots) where
   pub begin-passed : (samples coefs ledger scratch : ℕ) → beginAnswer count lens grid knots samples coefs ledger scratch ≡ 0
@@ -53,24 +44,6 @@ module _ (count : ℕ) (lens : List ℕ) (grid knots : List Check) (pg : Positiv
       }
 
   module _ {A : Type 0} (call : Call A) (state : State A) where
-    pub call-passed : callAnswer count lens grid knots call state ≡ 0 → CallPassed count lens grid knots call state
-    unfolding callChecks
-    call-passed e =
-        let dims : List ℕ = take count lens in
-        let shape = prefix-passed (shapeChecks count lens) _ e in
-        let p = both-passed grid _ pg (sym (accepted-append count lens shape _) ∙ e) in
-        let q = length-passed _ (size dims) (length (state .coefs)) (p .1) in
-        let r = length-passed _ (size dims) (length (state .ledger)) (q .1) in
-        let s = both-passed knots _ pk (r .1) in
-        let t = scratch-passed _ dims (length (call .scratch)) (s .1) in
-        record {
-          ready = record { shape-passed = shape; grid-passed = p .0; knots-passed = s .0 };
-          coefs-size = q .0;
-          ledger-size = r .0;
-          scratch-room = t .0;
-          due = due-bytes dims (call .axis) (call .line) (state .ledger) .0 (t .1);
-        }
-
     -- what is left to check after an accepted begin
     pub call-left : Ready count lens grid knots → length (state .coefs) ≡ size (take count lens) → length (state .ledger) ≡ size (take count lens)
         → callAnswer count lens grid knots call state

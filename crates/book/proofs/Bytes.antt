@@ -13,7 +13,7 @@ use Rattle.shape.specs.Shape.{size, points, NotEmpty, stride, lines, isLine, fi
 use Rattle.shape.specs.Cells.{onLine, line, writeLine}
 use Rattle.shape.specs.Checks.{firstRefusal}
 use Rattle.shape.specs.Fit.{along}
-use Rattle.shape.proofs.Cells.{length-put, put-next, line-apart, line-in, line-out}
+use Rattle.shape.proofs.Cells.{length-put, line-apart, line-in, line-out}
 use Rattle.shape.proofs.Radix.{stride-pos, lineAt-cellAt, cellAt-lineAt, placeAt-lt, cellAt-lt}
 use Rattle.shape.specs.Below.{anyBelow}
 use Rattle.book.specs.LineCall.{byteAbove, byteBelow, oneMore, bumped}
@@ -69,37 +69,6 @@ due-bytes dims a l ledger = (
         any-none (byteBelow a (first dims a l) (stride dims a) ledger) (points dims a) (λ i h. le-ltb _ a (omega (arith, d .each i h))),
       )),
 )
-
--- so a byte has room for 1 more
-pub due-small : (dims : List ℕ) (a l : ℕ) (ledger : List ℕ) → length dims ≤ 4 → DueBytes dims a l ledger → (i : ℕ) → i < points dims a → along 0 dims a l ledger i < 255
-due-small dims a l ledger h d i hi = omega (arith, d .each i hi, d .is-axis)
-
--- ---- 1 added along a line, by a loop that goes up: the first i bytes are done
-
-pub record BumpedTo (base stride n : ℕ) (ledger₀ ledger : List ℕ) (i : ℕ) : Type 0 where
-  pub most : i ≤ n
-  pub same-length : length ledger ≡ length ledger₀
-  pub bytes : ledger ≡ writeLine base stride (oneMore base stride ledger₀) i ledger₀
-
-module _ (base stride n : ℕ) (ledger₀ : List ℕ) where
-  pub bump-start : BumpedTo base stride n ledger₀ ledger₀ 0
-  bump-start = record { most = omega arith; same-length = refl; bytes = refl }
-
-  module _ (pos : 0 < stride) (ledger : List ℕ) (i : ℕ) (w : BumpedTo base stride n ledger₀ ledger i) where
-    -- the next byte is as it was
-    pub bump-left : getD ledger (base + i * stride) 0 ≡ line 0 base stride ledger₀ i
-    bump-left =
-        ap (λ (r : List ℕ). getD r (base + i * stride) 0) (w .bytes)
-        ∙ line-out base stride (oneMore base stride ledger₀) i ledger₀ 0 (base + i * stride) (λ k h e. line-apart base stride k i pos h (sym e))
-
-    pub bump-step : i < n → (ledger′ : List ℕ) → ledger′ ≡ set ledger (base + i * stride) (getD ledger (base + i * stride) 0 + 1) → BumpedTo base stride n ledger₀ ledger′ (i + 1)
-    bump-step h ledger′ e =
-        let bytes : ledger′ ≡ writeLine base stride (oneMore base stride ledger₀) (i + 1) ledger₀ =
-        put-next (onLine base stride) (oneMore base stride ledger₀) i ledger₀ ledger ledger′ _ (w .bytes) e (ap (λ (x : ℕ). x + 1) bump-left) in
-        record { most = omega arith; same-length = ap length bytes ∙ length-put _ _ (i + 1) ledger₀; bytes = bytes }
-
-    pub bump-done : n ≤ i → ledger ≡ writeLine base stride (oneMore base stride ledger₀) n ledger₀
-    bump-done h = let e : i ≡ n = omega (arith, w .most) in rw e at (w .bytes)
 
 -- ---- what 1 added along a line leaves
 

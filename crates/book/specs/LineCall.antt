@@ -52,6 +52,13 @@ pub record State (A : Type 0) : Type 0 where
   pub coefs : List A
   pub ledger : List ℕ
 
+-- both by their parts, for contracts
+abbrev pub callOf : {A : Type 0} → ℕ → ℕ → List A → Call A
+callOf axis line scratch = record { axis = axis; line = line; scratch = scratch }
+
+abbrev pub stateOf : {A : Type 0} → List A → List ℕ → State A
+stateOf coefs ledger = record { coefs = coefs; ledger = ledger }
+
 module _ (count : ℕ) (lens : List ℕ) (grid knots : List Check) where
   -- begin checks as the whole fit does, the ledger's length besides
   unfoldable pub beginChecks : ℕ → ℕ → ℕ → ℕ → List Check

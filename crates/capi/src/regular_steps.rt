@@ -1,6 +1,7 @@
 // Stepwise fitting on a regular grid.
 ghost use lib.ListN.{length};
 ghost use lib.Ieee.{binary64};
+ghost use Rattle.book.specs.LineCall.{callOf, stateOf};
 ghost use Rattle.stepwise.specs.Regular.{RegularBegun, RegularLineCalled, RegularRan};
 ghost use Rattle.capi_parts.specs.Inputs.{lensOf};
 use capi_parts::number;
@@ -14,7 +15,7 @@ pub extern "C" fn corvezan_regular_begin(
     ledger: &mut [u8],
     scratch_len: usize,
 ) -> u32
-    ensures { λ n. ⌜ RegularBegun (length (now (dims .entry))) (lensOf (now (dims .entry))) (now (vals .entry)) (record { coefs = now (coeffs .entry); ledger = now (ledger .entry) }) «scratch_len» n (record { coefs = now (coeffs .exit); ledger = now (ledger .exit) }) ⌝ }
+    ensures { λ n. ⌜ RegularBegun (length (now (dims .entry))) (lensOf (now (dims .entry))) (now (vals .entry)) (stateOf (now (coeffs .entry)) (now (ledger .entry))) «scratch_len» n (stateOf (now (coeffs .exit)) (now (ledger .exit))) ⌝ }
 {
     let shape = shape_of(dims);
     let lens = shape.dims;
@@ -30,7 +31,7 @@ pub extern "C" fn corvezan_regular_line(
     ledger: &mut [u8],
     scratch: &mut [f64],
 ) -> u32
-    ensures { λ n. ⌜ RegularLineCalled binary64 (length (now (dims .entry))) (lensOf (now (dims .entry))) (record { axis = axis; line = line; scratch = now (scratch .entry) }) (record { coefs = now (coeffs .entry); ledger = now (ledger .entry) }) n (record { coefs = now (coeffs .exit); ledger = now (ledger .exit) }) (now (scratch .exit)) ⌝ }
+    ensures { λ n. ⌜ RegularLineCalled binary64 (length (now (dims .entry))) (lensOf (now (dims .entry))) (callOf axis line (now (scratch .entry))) (stateOf (now (coeffs .entry)) (now (ledger .entry))) n (stateOf (now (coeffs .exit)) (now (ledger .exit))) (now (scratch .exit)) ⌝ }
 {
     let shape = shape_of(dims);
     number(stepwise::solve_regular_line(shape, axis, line, coeffs, ledger, scratch))
@@ -47,7 +48,7 @@ pub extern "C" fn corvezan_regular_list(
     scratch: &mut [f64],
     answers: &mut [u8],
 ) -> u32
-    ensures { λ n. ⌜ RegularRan binary64 (length (now (dims .entry))) (lensOf (now (dims .entry))) (now (vals .entry)) (now («task_axes» .entry)) (now («task_lines» .entry)) (record { coefs = now (coeffs .entry); ledger = now (ledger .entry) }) (now (scratch .entry)) (now (answers .entry)) n (record { coefs = now (coeffs .exit); ledger = now (ledger .exit) }) (now (scratch .exit)) (now (answers .exit)) ⌝ }
+    ensures { λ n. ⌜ RegularRan binary64 (length (now (dims .entry))) (lensOf (now (dims .entry))) (now (vals .entry)) (now («task_axes» .entry)) (now («task_lines» .entry)) (stateOf (now (coeffs .entry)) (now (ledger .entry))) (now (scratch .entry)) (now (answers .entry)) n (stateOf (now (coeffs .exit)) (now (ledger .exit))) (now (scratch .exit)) (now (answers .exit)) ⌝ }
 {
     let shape = shape_of(dims);
     number(stepwise::fit_regular_by_list(

@@ -2,25 +2,24 @@
 use mathlib.Core.Path.{_≡_, refl, sym, ap, _∙_}
 use mathlib.Core.Bool.{false}
 use mathlib.Core.List.{List, [], _++_, append-assoc}
-use Prim.Native.Nat.{ℕ, _≤_, _<_}
+use Prim.Native.Nat.{ℕ, _*_, _≤_, _<_}
 use native.Mathlib.Omega.{arith}
 use lib.Dec.{eqb}
 use lib.ListN.{length, take}
 use borrow.Author.Tests.{ne-eqb}
-use Rattle.shape.specs.Shape.{size}
+use Rattle.shape.specs.Shape.{longest, size}
 use Rattle.shape.specs.Checks.{Check, firstRefusal, shapeChecks, lengthCheck, scratchCheck, Positive}
 use Rattle.shape.specs.Usable.{Usable}
-use Rattle.shape.specs.Sizes.{coeffStorageLen, constructionScratchLen}
 use Rattle.shape.specs.Refusal.{refusalNumber, answerNumber}
 use Rattle.shape.specs.declared.answers.Refusal.{Refusal}
 use Rattle.shape.specs.declared.answers.Refusal.the-variants.{AxisCount, DimensionMismatch, TooManyPoints, ScratchTooSmall, NotIncreasing, Unrepresentable, NoSuchLine, AlreadySolved, NotDue}
 use Rattle.shape.specs.declared.answers.Answer.{Answer}
 use Rattle.shape.specs.declared.answers.Answer.the-variants.{Accepted, Refused}
-use Rattle.shape.proofs.Checks.{length-fails, length-passes, length-passed, scratch-fails, scratch-passes}
-use Rattle.shape.proofs.Accepted.{refusal-suc, refusal-append, prefix-passed, passed-append, both-passed, positive-append, accepted-append, usable-accepted, storage-is, scratch-is}
+use Rattle.shape.proofs.Checks.{length-fails, length-passes, length-passed, scratch-fails, scratch-passes, scratch-passed}
+use Rattle.shape.proofs.Accepted.{refusal-suc, refusal-append, prefix-passed, passed-append, both-passed, positive-append, accepted-append, usable}
 use Rattle.book.specs.LineCall.{Call, State, dueChecks, beginChecks, beginAnswer, callChecks, callAnswer}
 use Rattle.book.proofs.Answers.{Ready}
-use Rattle.ledger.specs.Ready.{readyChecks}
+use Rattle.ledger.specs.Ready.{readyChecks, callReadyChecks}
 
 -- ---- what an answer says
 
@@ -68,30 +67,22 @@ two-agree wanted first second e =
     let p = length-passed (lengthCheck wanted second) wanted first e in
     (p .0, length-passed [] wanted second (p .1) .0)
 
--- ---- the lengths of samples and scratch, of an accepted shape
+-- ---- the lengths of samples and scratch, against those that the code works out
 
-module _ (count : ℕ) (lens : List ℕ) (four : length lens ≡ 4) (u : Usable count lens) where
-  pub storage-size : coeffStorageLen count lens ≡ size (take count lens)
-  storage-size = storage-is count lens (usable-accepted count lens four u)
+module _ (dims : List ℕ) (scratch room : ℕ) (is : room ≡ 2 * longest dims) where
+  pub scratch-short : scratch < room → _≡_ {A = ℕ} 4 (firstRefusal (scratchCheck dims scratch))
+  scratch-short h = scratch-fails [] dims scratch (rw is at h)
 
-  module _ (rest : List Check) (scratch : ℕ) where
-    pub scratch-short : scratch < constructionScratchLen count lens → _≡_ {A = ℕ} 4 (firstRefusal (scratchCheck (take count lens) scratch ++ rest))
-    scratch-short h = scratch-fails rest (take count lens) scratch (rw (scratch-is count lens (usable-accepted count lens four u)) at h)
+  pub scratch-enough : room ≤ scratch → _≡_ {A = ℕ} 0 (firstRefusal (scratchCheck dims scratch))
+  unfolding firstRefusal
+  scratch-enough h = sym (scratch-passes [] dims scratch (rw is at h))
 
-    pub scratch-enough : constructionScratchLen count lens ≤ scratch → firstRefusal (scratchCheck (take count lens) scratch ++ rest) ≡ firstRefusal rest
-    scratch-enough h = scratch-passes rest (take count lens) scratch (rw (scratch-is count lens (usable-accepted count lens four u)) at h)
+module _ (dims : List ℕ) (rest : List Check) (samples points : ℕ) (is : points ≡ size dims) where
+  pub samples-differ : (samples ≡ points → ⊥) → _≡_ {A = ℕ} 2 (firstRefusal (lengthCheck (size dims) samples ++ rest))
+  samples-differ h = length-fails rest (size dims) samples (λ e. h (e ∙ sym is))
 
-  module _ (samples scratch : ℕ) where
-    pub lent-samples : (samples ≡ coeffStorageLen count lens → ⊥) → _≡_ {A = ℕ} 2 (firstRefusal (lengthCheck (size (take count lens)) samples ++ scratchCheck (take count lens) scratch))
-    lent-samples h = length-fails (scratchCheck (take count lens) scratch) (size (take count lens)) samples (λ e. h (e ∙ sym storage-size))
-
-    module _ (same : samples ≡ coeffStorageLen count lens) where
-      pub lent-scratch : scratch < constructionScratchLen count lens → _≡_ {A = ℕ} 4 (firstRefusal (lengthCheck (size (take count lens)) samples ++ scratchCheck (take count lens) scratch))
-      lent-scratch h = scratch-short [] scratch h ∙ sym (length-passes (scratchCheck (take count lens) scratch) (size (take count lens)) samples (same ∙ storage-size))
-
-      pub lent-passed : constructionScratchLen count lens ≤ scratch → _≡_ {A = ℕ} 0 (firstRefusal (lengthCheck (size (take count lens)) samples ++ scratchCheck (take count lens) scratch))
-      unfolding firstRefusal
-      lent-passed h = sym (length-passes (scratchCheck (take count lens) scratch) (size (take count lens)) samples (same ∙ storage-size) ∙ scratch-enough [] scratch h)
+  pub samples-agree : samples ≡ points → {n : ℕ} → n ≡ firstRefusal rest → n ≡ firstRefusal (lengthCheck (size dims) samples ++ rest)
+  samples-agree same e = e ∙ sym (length-passes rest (size dims) samples (same ∙ is))
 
 -- ---- what begin and the line call check first: shape, joined grid, coefficients and ledger, knots
 
@@ -148,7 +139,7 @@ module _ (count : ℕ) (lens : List ℕ) (grid knots : List Check) (coefs ledger
         let r = length-passed knots (size (take count lens)) ledger (q .1) in
         (record { shape-passed = shape; grid-passed = p .0; knots-passed = r .1 }, q .0, r .0)
 
-    -- ---- and what comes last: samples and scratch, or scratch and the line
+    -- ---- and what comes last: samples and scratch, or scratch
 
     module _ (last : List Check) {answer : ℕ} (is : answer ≡ firstRefusal (readyChecks count lens grid knots coefs ledger ++ last)) {x : Answer}
         (e : answerNumber x ≡ firstRefusal (readyChecks count lens grid knots coefs ledger)) where
@@ -165,9 +156,69 @@ module _ (count : ℕ) (lens : List ℕ) (grid knots : List Check) where
   unfolding beginChecks readyChecks
   begin-ready samples coefs ledger scratch = ap (λ (xs : List Check). firstRefusal (shapeChecks count lens ++ xs)) (sym (append-assoc grid _ _))
 
-  pub call-ready : {A : Type 0} (call : Call A) (state : State A)
-      → callAnswer count lens grid knots call state
-      ≡ firstRefusal (readyChecks count lens grid knots (length (state .coefs)) (length (state .ledger))
-      ++ (scratchCheck (take count lens) (length (call .scratch)) ++ dueChecks (take count lens) (call .axis) (call .line) (state .ledger)))
-  unfolding callChecks readyChecks
-  call-ready call state = ap (λ (xs : List Check). firstRefusal (shapeChecks count lens ++ xs)) (sym (append-assoc grid _ _))
+-- ---- all that a line call checks but the line itself
+
+-- where they pass
+pub record CallReady (count : ℕ) (lens : List ℕ) (grid knots : List Check) (coefs ledger scratch : ℕ) : Type 0 where
+  pub shape : Usable count lens
+  pub ready : Ready count lens grid knots
+  pub coefs-size : coefs ≡ size (take count lens)
+  pub ledger-size : ledger ≡ size (take count lens)
+  pub scratch-room : 2 * longest (take count lens) ≤ scratch
+
+module _ (count : ℕ) (lens : List ℕ) (grid knots : List Check) where
+  pub call-ready-is : (coefs ledger scratch : ℕ)
+      → firstRefusal (callReadyChecks count lens grid knots coefs ledger scratch)
+      ≡ firstRefusal (readyChecks count lens grid knots coefs ledger ++ scratchCheck (take count lens) scratch)
+  unfolding callReadyChecks
+  call-ready-is coefs ledger scratch = refl
+
+  module _ (pg : Positive grid) (pk : Positive knots) where
+    module _ (coefs ledger scratch : ℕ) where
+      call-positive : Positive (callReadyChecks count lens grid knots coefs ledger scratch)
+      unfolding callReadyChecks
+      call-positive = positive-append (readyChecks count lens grid knots coefs ledger) _ (ready-positive count lens grid knots coefs ledger pg pk) (omega arith, tt)
+
+      pub call-ready : length lens ≡ 4 → firstRefusal (callReadyChecks count lens grid knots coefs ledger scratch) ≡ 0 → CallReady count lens grid knots coefs ledger scratch
+      unfolding callReadyChecks
+      call-ready four e =
+          let p = both-passed (readyChecks count lens grid knots coefs ledger) _ (ready-positive count lens grid knots coefs ledger pg pk) e in
+          let q = ready-passed count lens grid knots coefs ledger pg pk (p .0) in
+          record {
+            shape = usable count lens four (q .0 .shape-passed);
+            ready = q .0;
+            coefs-size = q .1;
+            ledger-size = q .2;
+            scratch-room = scratch-passed [] (take count lens) scratch (p .1) .0;
+          }
+
+      -- they do after an accepted begin
+      pub begun-ready : (samples : ℕ) → beginAnswer count lens grid knots samples coefs ledger scratch ≡ 0
+          → firstRefusal (callReadyChecks count lens grid knots coefs ledger scratch) ≡ 0
+      unfolding callReadyChecks
+      begun-ready samples e =
+          let positive = ready-positive count lens grid knots coefs ledger pg pk in
+          let p = both-passed (readyChecks count lens grid knots coefs ledger) _ positive (sym (begin-ready count lens grid knots samples coefs ledger scratch) ∙ e) in
+          passed-append (readyChecks count lens grid knots coefs ledger) _ positive (p .0) ∙ length-passed (scratchCheck (take count lens) scratch) (size (take count lens)) samples (p .1) .1
+
+    module _ {A : Type 0} (call : Call A) (state : State A) where
+      call-checks : callAnswer count lens grid knots call state
+          ≡ firstRefusal (callReadyChecks count lens grid knots (length (state .coefs)) (length (state .ledger)) (length (call .scratch))
+          ++ dueChecks (take count lens) (call .axis) (call .line) (state .ledger))
+      unfolding callChecks readyChecks callReadyChecks
+      call-checks =
+          ap (λ (xs : List Check). firstRefusal (shapeChecks count lens ++ xs)) (sym (append-assoc grid _ _))
+          ∙ ap firstRefusal (sym (append-assoc (readyChecks count lens grid knots (length (state .coefs)) (length (state .ledger))) _ _))
+
+      -- a call that they refuse, and what is left to check where they pass: the line
+      pub call-not-ready : {x : Answer} {r : Refusal} → x ≡ Refused r
+          → answerNumber x ≡ firstRefusal (callReadyChecks count lens grid knots (length (state .coefs)) (length (state .ledger)) (length (call .scratch)))
+          → refusalNumber r ≡ callAnswer count lens grid knots call state
+      call-not-ready {r = r} told e =
+          refusal-append r (callReadyChecks count lens grid knots (length (state .coefs)) (length (state .ledger)) (length (call .scratch))) _ (is-refused told e) ∙ sym call-checks
+
+      pub line-left : firstRefusal (callReadyChecks count lens grid knots (length (state .coefs)) (length (state .ledger)) (length (call .scratch))) ≡ 0
+          → callAnswer count lens grid knots call state ≡ firstRefusal (dueChecks (take count lens) (call .axis) (call .line) (state .ledger))
+      line-left ok =
+          call-checks
+          ∙ passed-append (callReadyChecks count lens grid knots (length (state .coefs)) (length (state .ledger)) (length (call .scratch))) _ (call-positive (length (state .coefs)) (length (state .ledger)) (length (call .scratch))) ok

@@ -2,22 +2,23 @@
 // on, `stride` apart. No floats here.
 ghost use mathlib.Core.Path.{_≡_};
 ghost use mathlib.Core.List.{[], _∷_};
-ghost use Prim.Native.Nat.{ℕ, _+_, _-_, _<_};
+ghost use Prim.Native.Nat.{_-_, _<_};
 ghost use lib.ListN.{length, take, set, replicate};
 ghost use Rattle.shape.specs.Shape.{size};
 ghost use Rattle.shape.specs.Cells.{onLine, line, writeLine};
 ghost use Rattle.shape.specs.Checks.{refuse, firstRefusal};
 ghost use Rattle.shape.specs.Usable.{Usable};
+ghost use Rattle.shape.specs.Line.{LineInside};
 ghost use Rattle.shape.specs.Refusal.{answerNumber};
 ghost use Rattle.shape.specs.Below.{anyBelow};
-ghost use Rattle.book.specs.LineCall.{byteAbove, byteBelow, dueChecks, oneMore, bumped};
-ghost use Rattle.book.specs.Due.{DueBytes};
-ghost use Rattle.ledger.specs.Bytes.{byteOther};
+ghost use Rattle.book.specs.LineCall.{byteAbove, byteBelow, oneMore};
+ghost use Rattle.ledger.specs.Bytes.{byteOther, EachByte, each, DueLooked};
 use multibspline::place;
 use shape::Answer;
-use shape::FirstCell;
 use shape::Refusal;
-use shape::Shape;
+use shape::inner::Line;
+use shape::inner::LineFound;
+use shape::inner::find_line;
 
 // The byte of entry i of a line.
 fn byte(base: usize, stride: usize, n: usize, i: usize, ledger: &[u8]) -> usize
@@ -73,47 +74,53 @@ fn check_bytes(a: usize, base: usize, stride: usize, n: usize, ledger: &[u8]) ->
     Answer::Refused(Refusal::NotDue)
 }
 
-// Whether a line is due. Refuses with 7 where there is no such axis or line, then with 8 and 9.
-pub fn check_due(count: usize, dims: [usize; 4], axis: usize, line: usize, ledger: &[u8]) -> Answer
-    requires { ⌜ Usable count dims × (length (now ledger) ≡ size (take count dims)) ⌝ }
-    ensures { λ r. ⌜ answerNumber r ≡ firstRefusal (dueChecks (take count dims) axis line (now (ledger .entry))) ⌝ }
-{
-    let shape = Shape { count, dims };
-    match shape.first_cell(axis, line) {
-        FirstCell::At(base) => check_bytes(axis, base, shape.stride(axis), dims[axis], ledger),
-        FirstCell::Refused(refusal) => Answer::Refused(refusal),
-    }
+// A line that is due, or why it is not.
+pub enum Due {
+    At(Line),
+    Refused(Refusal),
 }
 
-// 1 more in the byte of entry i of a line.
-fn bump_byte(base: usize, stride: usize, n: usize, i: usize, ledger: &mut [u8])
-    requires { ⌜ (i < n) × (onLine base stride (n - 1) < length (now ledger)) × (line 0 base stride (now ledger) i < 255) ⌝ }
-    ensures { λ _. ⌜ now (ledger .exit) ≡ set (now (ledger .entry)) (onLine base stride i) (line 0 base stride (now (ledger .entry)) i + 1) ⌝ }
+// Whether a line is due. Refuses with 7 where there is no such axis or line, then with 8 and 9.
+pub fn find_due(count: usize, dims: [usize; 4], axis: usize, line: usize, ledger: &[u8]) -> Due
+    requires { ⌜ Usable count dims × (length (now ledger) ≡ size (take count dims)) ⌝ }
+    ensures { λ r. ⌜ DueLooked (take count dims) axis line (now (ledger .entry)) r ⌝ }
+{
+    let LineFound::At(found) = find_line(count, dims, axis, line) else {
+        return Due::Refused(Refusal::NoSuchLine);
+    };
+    if let Answer::Refused(refusal) = check_bytes(axis, found.base, found.stride, found.n, ledger) {
+        return Due::Refused(refusal);
+    }
+    Due::At(found)
+}
+
+// The byte of entry i of a line is set.
+fn set_byte(base: usize, stride: usize, n: usize, i: usize, v: u8, ledger: &mut [u8])
+    requires { ⌜ (i < n) × (onLine base stride (n - 1) < length (now ledger)) ⌝ }
+    ensures { λ _. ⌜ now (ledger .exit) ≡ set (now (ledger .entry)) (onLine base stride i) v ⌝ }
 {
     let p = place(base, stride, n, i, ledger.len());
-    ledger[p] = ledger[p] + 1;
+    ledger[p] = v;
 }
 
-// 1 more in each byte of a line.
-fn bump(base: usize, stride: usize, n: usize, ledger: &mut [u8])
-    requires { ⌜ (0 < stride) × (onLine base stride (n - 1) < length (now ledger)) × ((i : ℕ) → i < n → line 0 base stride (now ledger) i < 255) ⌝ }
-    ensures { λ _. ⌜ now (ledger .exit) ≡ writeLine base stride (oneMore base stride (now (ledger .entry))) n (now (ledger .entry)) ⌝ }
+// Each byte of a line is set to the same.
+fn set_bytes(base: usize, stride: usize, n: usize, v: u8, ledger: &mut [u8])
+    requires { ⌜ onLine base stride (n - 1) < length (now ledger) ⌝ }
+    ensures { λ _. ⌜ now (ledger .exit) ≡ writeLine base stride (each v) n (now (ledger .entry)) ⌝ }
 {
     for i in 0..n {
-        bump_byte(base, stride, n, i, ledger);
+        set_byte(base, stride, n, i, v, ledger);
     }
 }
 
-// 1 more in each byte of a line that is due.
-pub fn bump_line(count: usize, dims: [usize; 4], axis: usize, line: usize, ledger: &mut [u8])
-    requires { ⌜ (axis < count) × Usable count dims ⌝ }
-    requires { ⌜ (length (now ledger) ≡ size (take count dims)) × DueBytes (take count dims) axis line (now ledger) ⌝ }
-    ensures { λ _. ⌜ now (ledger .exit) ≡ bumped (take count dims) axis line (now (ledger .entry)) ⌝ }
+// 1 more in each byte of a line of an axis that is due. Each of them is the axis's number, so that none is read: where they
+// fall on the same lines of the cache, reading and writing them by turns takes twice as long as writing them.
+pub fn bump_line(axis: usize, found: Line, ledger: &mut [u8])
+    requires { ⌜ (axis < 4) × LineInside found (length (now ledger)) × EachByte axis found (now ledger) ⌝ }
+    ensures { λ _. ⌜ now (ledger .exit) ≡ writeLine (found .base) (found .stride) (oneMore (found .base) (found .stride) (now (ledger .entry))) (found .n) (now (ledger .entry)) ⌝ }
 {
-    let shape = Shape { count, dims };
-    let s = shape.stride(axis);
-    let base = shape::first_cell_of(dims[axis], s, line);
-    bump(base, s, dims[axis], ledger);
+    let next = (axis + 1) as u8;
+    set_bytes(found.base, found.stride, found.n, next, ledger);
 }
 
 // Every byte is 0.

@@ -1,5 +1,5 @@
-// What begin and the line call check on either grid, in the order of the papers: the shape first, then the joined grid, what
-// stands here up to the ledger, the knots, and what stands here after them.
+// What begin, the line call and the task list check on either grid, in the order of the papers: the shape first, then the
+// joined grid, what stands here up to the ledger, the knots, and what stands here after them. The shape has passed its check.
 ghost use mathlib.Core.Path.{_≡_};
 ghost use mathlib.Core.List.{_++_};
 ghost use lib.ListN.{length, take, replicate};
@@ -7,21 +7,19 @@ ghost use Rattle.shape.specs.Shape.{size};
 ghost use Rattle.shape.specs.Checks.{firstRefusal, lengthCheck, scratchCheck};
 ghost use Rattle.shape.specs.Usable.{Usable};
 ghost use Rattle.shape.specs.Refusal.{answerNumber};
-ghost use Rattle.book.specs.LineCall.{dueChecks};
-use crate::bytes::check_due;
 use crate::bytes::clear;
 use multibspline::copy;
 use shape::Answer;
 use shape::Refusal;
-use shape::Shape;
+use shape::inner::points_of;
+use shape::inner::scratch_of;
 
 // 2 for the length of the coefficients, then for that of the ledger.
 pub fn check_held(count: usize, dims: [usize; 4], coeffs: usize, ledger: usize) -> Answer
     requires { ⌜ Usable count dims ⌝ }
     ensures { λ r. ⌜ answerNumber r ≡ firstRefusal (lengthCheck (size (take count dims)) coeffs ++ lengthCheck (size (take count dims)) ledger) ⌝ }
 {
-    let shape = Shape { count, dims };
-    let points = shape.coeff_storage_len();
+    let points = points_of(count, dims);
     if coeffs != points {
         return Answer::Refused(Refusal::DimensionMismatch);
     }
@@ -31,38 +29,26 @@ pub fn check_held(count: usize, dims: [usize; 4], coeffs: usize, ledger: usize) 
     Answer::Accepted
 }
 
-// 2 for the length of the samples, then 4 for that of scratch.
-pub fn check_lent(count: usize, dims: [usize; 4], vals: usize, scratch: usize) -> Answer
+// 4 for the length of scratch.
+pub fn check_scratch(count: usize, dims: [usize; 4], scratch: usize) -> Answer
     requires { ⌜ Usable count dims ⌝ }
-    ensures { λ r. ⌜ answerNumber r ≡ firstRefusal (lengthCheck (size (take count dims)) vals ++ scratchCheck (take count dims) scratch) ⌝ }
+    ensures { λ r. ⌜ answerNumber r ≡ firstRefusal (scratchCheck (take count dims) scratch) ⌝ }
 {
-    let shape = Shape { count, dims };
-    if vals != shape.coeff_storage_len() {
-        return Answer::Refused(Refusal::DimensionMismatch);
-    }
-    if scratch < shape.construction_scratch_len() {
+    if scratch < scratch_of(count, dims) {
         return Answer::Refused(Refusal::ScratchTooSmall);
     }
     Answer::Accepted
 }
 
-// 4 for the length of scratch, then 7, 8 and 9 for the line.
-pub fn check_line(
-    count: usize,
-    dims: [usize; 4],
-    axis: usize,
-    line: usize,
-    ledger: &[u8],
-    scratch: usize,
-) -> Answer
-    requires { ⌜ Usable count dims × (length (now ledger) ≡ size (take count dims)) ⌝ }
-    ensures { λ r. ⌜ answerNumber r ≡ firstRefusal (scratchCheck (take count dims) scratch ++ dueChecks (take count dims) axis line (now (ledger .entry))) ⌝ }
+// 2 for the length of the samples, then 4 for that of scratch.
+pub fn check_lent(count: usize, dims: [usize; 4], vals: usize, scratch: usize) -> Answer
+    requires { ⌜ Usable count dims ⌝ }
+    ensures { λ r. ⌜ answerNumber r ≡ firstRefusal (lengthCheck (size (take count dims)) vals ++ scratchCheck (take count dims) scratch) ⌝ }
 {
-    let shape = Shape { count, dims };
-    if scratch < shape.construction_scratch_len() {
-        return Answer::Refused(Refusal::ScratchTooSmall);
+    if vals != points_of(count, dims) {
+        return Answer::Refused(Refusal::DimensionMismatch);
     }
-    check_due(count, dims, axis, line, ledger)
+    check_scratch(count, dims, scratch)
 }
 
 // 2 where the lists of axes, lines and answers disagree in length.

@@ -28,6 +28,7 @@ use rectilinear_weights::low_ghost_coeffs;
 use shape::Answer;
 use shape::Refusal;
 use shape::Shape;
+use shape::inner::first_cell_of;
 
 // The checks of a fit, from the joined grid and the lengths of its buffers.
 fn check_fit(
@@ -63,7 +64,7 @@ fn check_fit(
 }
 
 // Line l of an axis with the given knots, which are s apart in the map; m is the length of the longest axis.
-pub fn solve_nth(
+fn solve_nth(
     grid: &[f64],
     low_ghost: Ghost,
     high_ghost: Ghost,
@@ -78,7 +79,7 @@ pub fn solve_nth(
     ensures { λ _. ⌜ now (coeffs .exit) ≡ solveLine nan (coefficient binary64 (now (grid .entry)) (ghostNumbers «low_ghost») (ghostNumbers «high_ghost»)) (length (now (grid .entry))) s l (now (coeffs .entry)) ⌝ }
     ensures { λ _. ⌜ now (scratch .exit) ≡ lineLeaves nan (upperNumber binary64 (now (grid .entry)) (ghostNumbers «low_ghost») (ghostNumbers «high_ghost»)) (coefficient binary64 (now (grid .entry)) (ghostNumbers «low_ghost») (ghostNumbers «high_ghost»)) (length (now (grid .entry))) s m l (now (coeffs .entry)) (now (scratch .entry)) ⌝ }
 {
-    let base = shape::first_cell_of(grid.len(), s, l);
+    let base = first_cell_of(grid.len(), s, l);
     solve_checked(grid, low_ghost, high_ghost, base, s, m, coeffs, scratch);
 }
 
@@ -122,7 +123,7 @@ fn solve_many(
     let n = grid.len();
     upper_numbers(grid, low_ghost, high_ghost, scratch);
     solve_in_place(grid, low_ghost, high_ghost, s, lines, scratch, coeffs);
-    let base = shape::first_cell_of(n, s, lines - 1);
+    let base = first_cell_of(n, s, lines - 1);
     keep_line(base, s, n, m, coeffs, scratch);
 }
 

@@ -20,6 +20,7 @@ use regular_sweeps::upper_numbers;
 use shape::Answer;
 use shape::Refusal;
 use shape::Shape;
+use shape::inner::first_cell_of;
 
 // The checks of a fit, from the lengths of its buffers.
 fn check_fit(shape: Shape, vals: usize, coeffs: usize, scratch: usize) -> Answer
@@ -41,7 +42,7 @@ fn check_fit(shape: Shape, vals: usize, coeffs: usize, scratch: usize) -> Answer
 }
 
 // Line l of an axis of n points that are s apart; m is the length of the longest axis.
-pub fn solve_nth(
+fn solve_nth(
     n: usize,
     s: usize,
     lines: usize,
@@ -54,7 +55,7 @@ pub fn solve_nth(
     ensures { λ _. ⌜ now (coeffs .exit) ≡ solveLine nan (coefficient binary64 n) n s l (now (coeffs .entry)) ⌝ }
     ensures { λ _. ⌜ now (scratch .exit) ≡ lineLeaves nan (upperNumber binary64 n) (coefficient binary64 n) n s m l (now (coeffs .entry)) (now (scratch .entry)) ⌝ }
 {
-    let base = shape::first_cell_of(n, s, l);
+    let base = first_cell_of(n, s, l);
     solve_checked(base, s, n, m, coeffs, scratch);
 }
 
@@ -80,7 +81,7 @@ fn solve_many(n: usize, s: usize, lines: usize, m: usize, coeffs: &mut [f64], sc
 {
     upper_numbers(n, scratch);
     solve_in_place(n, s, lines, scratch, coeffs);
-    let base = shape::first_cell_of(n, s, lines - 1);
+    let base = first_cell_of(n, s, lines - 1);
     keep_line(base, s, n, m, coeffs, scratch);
 }
 

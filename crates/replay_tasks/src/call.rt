@@ -3,6 +3,7 @@ ghost use mathlib.Core.Path.{_≡_};
 ghost use lib.ListN.{length, getD};
 ghost use lib.Ieee.{binary64};
 ghost use Rattle.shape.specs.Refusal.{answerNumber};
+ghost use Rattle.book.specs.LineCall.{callOf, stateOf};
 ghost use Rattle.stepwise.specs.Rectilinear.{RectilinearBegun, RectilinearLineCalled, RectilinearRan};
 ghost use Rattle.stepwise.specs.Regular.{RegularBegun, RegularLineCalled, RegularRan};
 ghost use Rattle.replay_tasks.specs.Expected.{lens};
@@ -40,7 +41,7 @@ fn begin_regular(
     scratch: &[f64],
 ) -> Answer
     requires { ⌜ length (now numbers) ≡ 13 ⌝ }
-    ensures { λ r. ⌜ RegularBegun (getD (now (numbers .entry)) 0 0) (lens (now (numbers .entry))) (now (samples .entry)) (record { coefs = now (coeffs .entry); ledger = now (ledger .entry) }) (length (now (scratch .entry))) (answerNumber r) (record { coefs = now (coeffs .exit); ledger = now (ledger .exit) }) ⌝ }
+    ensures { λ r. ⌜ RegularBegun (getD (now (numbers .entry)) 0 0) (lens (now (numbers .entry))) (now (samples .entry)) (stateOf (now (coeffs .entry)) (now (ledger .entry))) (length (now (scratch .entry))) (answerNumber r) (stateOf (now (coeffs .exit)) (now (ledger .exit))) ⌝ }
 {
     let shape = shape_of(numbers);
     stepwise::begin_regular(shape, samples, coeffs, ledger, scratch)
@@ -55,7 +56,7 @@ fn solve_regular_line(
     scratch: &mut [f64],
 ) -> Answer
     requires { ⌜ length (now numbers) ≡ 13 ⌝ }
-    ensures { λ r. ⌜ RegularLineCalled binary64 (getD (now (numbers .entry)) 0 0) (lens (now (numbers .entry))) (record { axis = axis; line = line; scratch = now (scratch .entry) }) (record { coefs = now (coeffs .entry); ledger = now (ledger .entry) }) (answerNumber r) (record { coefs = now (coeffs .exit); ledger = now (ledger .exit) }) (now (scratch .exit)) ⌝ }
+    ensures { λ r. ⌜ RegularLineCalled binary64 (getD (now (numbers .entry)) 0 0) (lens (now (numbers .entry))) (callOf axis line (now (scratch .entry))) (stateOf (now (coeffs .entry)) (now (ledger .entry))) (answerNumber r) (stateOf (now (coeffs .exit)) (now (ledger .exit))) (now (scratch .exit)) ⌝ }
 {
     let shape = shape_of(numbers);
     stepwise::solve_regular_line(shape, axis, line, coeffs, ledger, scratch)
@@ -72,7 +73,7 @@ fn fit_regular_by_list(
     told: &mut [u8],
 ) -> Answer
     requires { ⌜ length (now numbers) ≡ 13 ⌝ }
-    ensures { λ r. ⌜ RegularRan binary64 (getD (now (numbers .entry)) 0 0) (lens (now (numbers .entry))) (now (samples .entry)) (now (axes .entry)) (now (lines .entry)) (record { coefs = now (coeffs .entry); ledger = now (ledger .entry) }) (now (scratch .entry)) (now (told .entry)) (answerNumber r) (record { coefs = now (coeffs .exit); ledger = now (ledger .exit) }) (now (scratch .exit)) (now (told .exit)) ⌝ }
+    ensures { λ r. ⌜ RegularRan binary64 (getD (now (numbers .entry)) 0 0) (lens (now (numbers .entry))) (now (samples .entry)) (now (axes .entry)) (now (lines .entry)) (stateOf (now (coeffs .entry)) (now (ledger .entry))) (now (scratch .entry)) (now (told .entry)) (answerNumber r) (stateOf (now (coeffs .exit)) (now (ledger .exit))) (now (scratch .exit)) (now (told .exit)) ⌝ }
 {
     let shape = shape_of(numbers);
     stepwise::fit_regular_by_list(shape, samples, axes, lines, coeffs, ledger, scratch, told)
@@ -87,7 +88,7 @@ fn begin_rectilinear(
     scratch: &[f64],
 ) -> Answer
     requires { ⌜ length (now numbers) ≡ 13 ⌝ }
-    ensures { λ r. ⌜ RectilinearBegun (getD (now (numbers .entry)) 0 0) (lens (now (numbers .entry))) (now (grid .entry)) (now (samples .entry)) (record { coefs = now (coeffs .entry); ledger = now (ledger .entry) }) (length (now (scratch .entry))) (answerNumber r) (record { coefs = now (coeffs .exit); ledger = now (ledger .exit) }) ⌝ }
+    ensures { λ r. ⌜ RectilinearBegun (getD (now (numbers .entry)) 0 0) (lens (now (numbers .entry))) (now (grid .entry)) (now (samples .entry)) (stateOf (now (coeffs .entry)) (now (ledger .entry))) (length (now (scratch .entry))) (answerNumber r) (stateOf (now (coeffs .exit)) (now (ledger .exit))) ⌝ }
 {
     let shape = shape_of(numbers);
     stepwise::begin_rectilinear(shape, grid, samples, coeffs, ledger, scratch)
@@ -103,7 +104,7 @@ fn solve_rectilinear_line(
     scratch: &mut [f64],
 ) -> Answer
     requires { ⌜ length (now numbers) ≡ 13 ⌝ }
-    ensures { λ r. ⌜ RectilinearLineCalled binary64 (getD (now (numbers .entry)) 0 0) (lens (now (numbers .entry))) (now (grid .entry)) (record { axis = axis; line = line; scratch = now (scratch .entry) }) (record { coefs = now (coeffs .entry); ledger = now (ledger .entry) }) (answerNumber r) (record { coefs = now (coeffs .exit); ledger = now (ledger .exit) }) (now (scratch .exit)) ⌝ }
+    ensures { λ r. ⌜ RectilinearLineCalled binary64 (getD (now (numbers .entry)) 0 0) (lens (now (numbers .entry))) (now (grid .entry)) (callOf axis line (now (scratch .entry))) (stateOf (now (coeffs .entry)) (now (ledger .entry))) (answerNumber r) (stateOf (now (coeffs .exit)) (now (ledger .exit))) (now (scratch .exit)) ⌝ }
 {
     let shape = shape_of(numbers);
     stepwise::solve_rectilinear_line(shape, grid, axis, line, coeffs, ledger, scratch)
@@ -121,7 +122,7 @@ fn fit_rectilinear_by_list(
     told: &mut [u8],
 ) -> Answer
     requires { ⌜ length (now numbers) ≡ 13 ⌝ }
-    ensures { λ r. ⌜ RectilinearRan binary64 (getD (now (numbers .entry)) 0 0) (lens (now (numbers .entry))) (now (grid .entry)) (now (samples .entry)) (now (axes .entry)) (now (lines .entry)) (record { coefs = now (coeffs .entry); ledger = now (ledger .entry) }) (now (scratch .entry)) (now (told .entry)) (answerNumber r) (record { coefs = now (coeffs .exit); ledger = now (ledger .exit) }) (now (scratch .exit)) (now (told .exit)) ⌝ }
+    ensures { λ r. ⌜ RectilinearRan binary64 (getD (now (numbers .entry)) 0 0) (lens (now (numbers .entry))) (now (grid .entry)) (now (samples .entry)) (now (axes .entry)) (now (lines .entry)) (stateOf (now (coeffs .entry)) (now (ledger .entry))) (now (scratch .entry)) (now (told .entry)) (answerNumber r) (stateOf (now (coeffs .exit)) (now (ledger .exit))) (now (scratch .exit)) (now (told .exit)) ⌝ }
 {
     let shape = shape_of(numbers);
     stepwise::fit_rectilinear_by_list(

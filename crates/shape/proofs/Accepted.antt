@@ -232,6 +232,15 @@ axis-le-longest [] a = omega arith
 axis-le-longest (n ∷ ns) zero = omega arith
 axis-le-longest (n ∷ ns) (suc a) = omega (arith, axis-le-longest ns a)
 
+-- stride and lines of an axis, from the spans of the axes before and after it
+module _ (count : ℕ) (lens : List ℕ) (a : ℕ) where
+  pub stride-span : {x : ℕ} → x ≡ product (drop (a + 1) (take count lens)) → x ≡ stride (take count lens) a
+  stride-span e = e ∙ rw (add-one a)
+
+  pub lines-span : {x y : ℕ} → a < count → x ≡ product (drop 0 (take a lens)) → y ≡ product (drop (a + 1) (take count lens)) → x * y ≡ lines (take count lens) a
+  lines-span h ex ey =
+      ap₂ (λ (p q : ℕ). p * q) (ex ∙ ap product (sym (take-take a count lens (omega arith)))) (ey ∙ rw (add-one a))
+
 -- ---- what the methods answer for an accepted shape
 
 module _ (count : ℕ) (lens : List ℕ) (ok : firstRefusal (shapeChecks count lens) ≡ 0) where
@@ -247,17 +256,9 @@ module _ (count : ℕ) (lens : List ℕ) (ok : firstRefusal (shapeChecks count l
   unfolding strideOf
   stride-is a h = rw (shape-accepted count lens ok, lt-ltb a count h)
 
-  -- from the two spans
-  pub stride-span : (a x : ℕ) → a < count → x ≡ product (drop (a + 1) (take count lens)) → x ≡ strideOf count lens a
-  stride-span a x h e = e ∙ rw (add-one a) (sym (stride-is a h))
-
   pub lines-are : (a : ℕ) → a < count → linesOf count lens a ≡ lines (take count lens) a
   unfolding linesOf
   lines-are a h = rw (shape-accepted count lens ok, lt-ltb a count h)
-
-  pub lines-span : (a x y : ℕ) → a < count → x ≡ product (drop 0 (take a lens)) → y ≡ product (drop (a + 1) (take count lens)) → x * y ≡ linesOf count lens a
-  lines-span a x y h ex ey =
-      ap₂ (λ (p q : ℕ). p * q) (ex ∙ ap product (sym (take-take a count lens (omega arith)))) (ey ∙ rw (add-one a)) ∙ sym (lines-are a h)
 
 -- 0 for a shape that is refused, and for an axis that it has not
 module _ (count : ℕ) (lens : List ℕ) (a : ℕ) where

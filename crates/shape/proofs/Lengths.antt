@@ -1,16 +1,16 @@
 -- Laws of the lengths of the axes: `product`, `longest` and `anyShort` of the axes from one on. Assumes nothing.
-use mathlib.Core.Path.{_≡_, refl, ap, sym, _∙_}
+use mathlib.Core.Path.{_≡_, refl, ap, _∙_}
 use mathlib.Core.Bool.{Bool, true, false, _||_}
 use mathlib.Core.List.{List, [], _∷_}
-use Prim.Native.Nat.{ℕ, zero, suc, _+_, _*_, _/_, _<_, _≤_, max}
-use native.Mathlib.Nat.{mul-pos, le-trans, le-of-eq, mul-one, mul-assoc, mul-le-mul-left, le-mul-of-pos-right, mul-le-mul-right, div-lt-iff-lt-mul, le-div-iff-mul-le, one-mul, not-suc-le-zero, le-of-suc-le-suc}
+use Prim.Native.Nat.{ℕ, _+_, _*_, _<_, _≤_, max}
+use native.Mathlib.Nat.{mul-pos}
 use native.Mathlib.Numerals.{add-one}
 use native.Mathlib.Omega.{arith}
 use lib.Dec.{ltb}
 use lib.ListN.{length, take, drop, getD, drop-of-length-le}
-use lib.Seq.{slice-cons, length-take-le, getD-take, drop-length}
-use borrow.Author.Tests.{ltb-false, lt-ltb, le-ltb}
-use Rattle.shape.specs.Shape.{product, longest, size, points, stride}
+use lib.Seq.{slice-cons, length-take-le}
+use borrow.Author.Tests.{ltb-false}
+use Rattle.shape.specs.Shape.{product, longest, points}
 use Rattle.shape.specs.Checks.{anyShort}
 
 -- ---- the axes from i on, of the first k: one more axis, and none
@@ -48,15 +48,6 @@ module _ (lens : List ℕ) (k i : ℕ) (h : k ≤ length lens) where
 pub or-false : (a b : Bool) → (a || b) ≡ false → (a ≡ false) × (b ≡ false)
 or-false true b e = absurd (let z : _≡_ {A = ℕ} 0 1 = cc in let q : ⊥ = omega arith in q)
 or-false false b e = (refl, e)
-
--- the division test against the product, with what is left to multiply
-pub above : (t n r l : ℕ) → 0 < n → 0 < r → l / n < t → suc l ≤ t * (n * r)
-above t n r l N R h =
-    let a : l < t * n = div-lt-iff-lt-mul N .0 h in
-    le-trans a (le-trans (le-of-eq (sym (mul-one (t * n)))) (le-trans (mul-le-mul-left (t * n) R) (le-of-eq (mul-assoc t n r))))
-
-pub within : (t n l : ℕ) → 0 < n → t ≤ l / n → t * n ≤ l
-within t n l N h = le-div-iff-mul-le N .0 h
 
 pub product-pos-of-short : (dims : List ℕ) → anyShort dims ≡ false → 0 < product dims
 unfolding product anyShort

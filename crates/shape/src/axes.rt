@@ -8,11 +8,15 @@ ghost use Rattle.shape.specs.Sizes.{coeffStorageLen, constructionScratch
 use crate::answers::Answer;
 use crate::answers::FirstCell;
 use crate::answers::Refusal;
+use crate::inner::LineFound;
+use crate::inner::find_line;
+use crate::inner::lines_of;
+use crate::inner::points_of;
+use crate::inner::scratch_of;
+use crate::inner::stride_of;
 use crate::spans::any_short;
-use crate::spans::first_cell_of;
 use crate::spans::longest_of;
 use crate::spans::points_to_limit;
-use crate::spans::span;
 
 pub fn check(count: usize, dims: [usize; 4]) -> Answer
     ensures { λ r. ⌜ answerNumber r ≡ firstRefusal (shapeChecks count dims) ⌝ }
@@ -45,7 +49,7 @@ pub fn coeff_storage_len(count: usize, dims: [usize; 4]) -> usize
     ensures { λ r. ⌜ r ≡ coeffStorageLen count dims ⌝ }
 {
     match check(count, dims) {
-        Answer::Accepted => span(dims, 0, count),
+        Answer::Accepted => points_of(count, dims),
         Answer::Refused(_) => 0,
     }
 }
@@ -54,7 +58,7 @@ pub fn construction_scratch_len(count: usize, dims: [usize; 4]) -> usize
     ensures { λ r. ⌜ r ≡ constructionScratchLen count dims ⌝ }
 {
     match check(count, dims) {
-        Answer::Accepted => 2 * longest_of(dims, count),
+        Answer::Accepted => scratch_of(count, dims),
         Answer::Refused(_) => 0,
     }
 }
@@ -66,7 +70,7 @@ pub fn stride(count: usize, dims: [usize; 4], axis: usize) -> usize
         return 0;
     }
     match check(count, dims) {
-        Answer::Accepted => span(dims, axis + 1, count),
+        Answer::Accepted => stride_of(count, dims, axis),
         Answer::Refused(_) => 0,
     }
 }
@@ -78,7 +82,7 @@ pub fn lines(count: usize, dims: [usize; 4], axis: usize) -> usize
         return 0;
     }
     match check(count, dims) {
-        Answer::Accepted => span(dims, 0, axis) * span(dims, axis + 1, count),
+        Answer::Accepted => lines_of(count, dims, axis),
         Answer::Refused(_) => 0,
     }
 }
@@ -89,11 +93,8 @@ pub fn first_cell(count: usize, dims: [usize; 4], axis: usize, line: usize) -> F
     if let Answer::Refused(refusal) = check(count, dims) {
         return FirstCell::Refused(refusal);
     }
-    if count <= axis {
-        return FirstCell::Refused(Refusal::NoSuchLine);
+    match find_line(count, dims, axis, line) {
+        LineFound::At(found) => FirstCell::At(found.base),
+        LineFound::NoSuchLine => FirstCell::Refused(Refusal::NoSuchLine),
     }
-    if lines(count, dims, axis) <= line {
-        return FirstCell::Refused(Refusal::NoSuchLine);
-    }
-    FirstCell::At(first_cell_of(dims[axis], stride(count, dims, axis), line))
 }

@@ -1,12 +1,12 @@
 // The shape of a map of one to four axes, and the answers of the library's calls. No floats here.
 mod answers;
 mod axes;
+pub mod inner;
 mod spans;
 
 pub use answers::Answer;
 pub use answers::FirstCell;
 pub use answers::Refusal;
-pub use spans::first_cell_of;
 ghost use mathlib.Core.Path.{_≡_};
 ghost use lib.ListN.{take};
 ghost use Rattle.shape.specs.Shape.{longest};

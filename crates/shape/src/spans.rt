@@ -1,9 +1,9 @@
 // Tests and products of the lengths of the axes: the inner functions of `Shape`.
 ghost use mathlib.Core.Path.{_≡_};
 ghost use mathlib.Core.Bool.{false};
-ghost use Prim.Native.Nat.{ℕ, _+_, _*_, _<_, _≤_, min};
+ghost use Prim.Native.Nat.{ℕ, _<_, _≤_, min};
 ghost use lib.ListN.{take, drop, getD};
-ghost use Rattle.shape.specs.Shape.{product, longest, size, firstCell};
+ghost use Rattle.shape.specs.Shape.{product, longest, size};
 ghost use Rattle.shape.specs.Checks.{anyShort, mostPoints};
 
 // Whether one of the first `count` lengths is below four.
@@ -21,8 +21,8 @@ pub fn any_short(dims: [usize; 4], count: usize) -> bool
     false
 }
 
-// The product of the first `count` lengths, or 16,777,217 where it is above 16,777,216. Division tests each factor before
-// it is multiplied, so that no length can make it overflow.
+// The product of the first `count` lengths, or 16,777,217 where it is above 16,777,216. A factor above that is not multiplied,
+// so that nothing overflows.
 pub fn points_to_limit(dims: [usize; 4], count: usize) -> usize
     requires { ⌜ (count ≤ 4) × (anyShort (take count dims) ≡ false) ⌝ }
     ensures { λ r. ⌜ r ≡ min (size (take count dims)) 16777217 ⌝ }
@@ -31,13 +31,13 @@ pub fn points_to_limit(dims: [usize; 4], count: usize) -> usize
     let mut i = 0;
     while i < count {
         let n = dims[i];
-        if n == 0 {
-            return 0;
-        }
-        if 16777216 / n < total {
+        if 16777216 < n {
             return 16777217;
         }
         total = total * n;
+        if 16777216 < total {
+            return 16777217;
+        }
         i += 1;
     }
     total
@@ -71,12 +71,4 @@ pub fn longest_of(dims: [usize; 4], count: usize) -> usize
         i += 1;
     }
     most
-}
-
-// The first cell of line l of an axis of n points that are s apart.
-pub fn first_cell_of(n: usize, s: usize, l: usize) -> usize
-    requires { ⌜ (0 < s) × (n * s ≤ mostPoints) × (firstCell n s l < mostPoints) ⌝ }
-    ensures { λ r. ⌜ r ≡ firstCell n s l ⌝ }
-{
-    l / s * (n * s) + l % s
 }

@@ -7,7 +7,7 @@ use Prim.Native.Nat.{ℕ, suc, _+_, _≤_, _<_}
 use native.Mathlib.Numerals.{add-one}
 use native.Mathlib.Omega.{arith}
 use lib.Dec.{eqb}
-use lib.ListN.{length, getD, take, drop, set, replicate, length-set, drop-of-length-le}
+use lib.ListN.{length, getD, take, drop, set, replicate, length-set, length-replicate, drop-of-length-le}
 use lib.Seq.{drop-cons, take-all, take-suc-set, append-snoc}
 use borrow.Author.Tests.{ne-eqb}
 use Rattle.shape.specs.Shape.{longest, size, points, stride}
@@ -17,14 +17,22 @@ use Rattle.shape.specs.Refusal.{refusalNumber, answerNumber}
 use Rattle.shape.specs.declared.answers.Refusal.{Refusal}
 use Rattle.shape.specs.declared.answers.Answer.{Answer}
 use Rattle.shape.specs.declared.answers.Answer.the-variants.{Accepted, Refused}
-use Rattle.shape.specs.Usable.{Usable}
-use Rattle.shape.proofs.Accepted.{refusal-append, passed-append, usable, axes-are, positive-append}
-use Rattle.book.specs.LineCall.{Call, State, bumped, beginChecks, beginAnswer, callChecks, callAnswer, lineCall, callScratch, after, answers, begun}
+use Rattle.shape.specs.Line.{LineIs, LineInside, LineFits}
+use Rattle.shape.specs.declared.inner.Line.{Line}
+use Rattle.shape.proofs.Accepted.{refusal-append, passed-append, positive-append}
+use Rattle.shape.proofs.Found.{on-axis, line-inside, line-fits}
+use Rattle.book.specs.LineCall.{Call, State, dueChecks, bumped, beginChecks, beginAnswer, callChecks, callAnswer, lineCall, callScratch, after, answers, begun}
 use Rattle.book.specs.Order.{Claim}
-use Rattle.book.proofs.Answers.{CallPassed, begin-passed, call-passed}
+use Rattle.book.proofs.Answers.{begin-passed}
 use Rattle.book.proofs.SameLengths.{length-coefs, length-ledger, length-call-scratch}
 use Rattle.stepwise.specs.Calls.{taskList, Begun, listChecks, LineCalled, taskScratch, OneRan, ListRan, Ran}
-use Rattle.ledger.proofs.Stages.{is-accepted, is-refused, refusal-some, refusal-not-0}
+use Rattle.ledger.specs.Bytes.{EachByte, DueLooked}
+use Rattle.ledger.specs.Ready.{callReadyChecks}
+use Rattle.ledger.specs.declared.bytes.Due.{Due}
+use Rattle.ledger.specs.declared.bytes.Due.the-variants.{At}
+use Rattle.ledger.specs.declared.bytes.Due.the-variants as Dues
+use Rattle.ledger.proofs.Due.{due-each}
+use Rattle.ledger.proofs.Stages.{is-accepted, is-refused, refusal-some, refusal-not-0, CallReady, call-ready, begun-ready, call-not-ready, line-left}
 
 -- ---- begin
 
@@ -52,42 +60,69 @@ module _ {count : ℕ} {lens : List ℕ} {grid knots : List Check} {A : Type 0} 
 
 -- ---- the line call
 
-module _ {count : ℕ} {lens : List ℕ} {grid knots : List Check} {A : Type 0} {o : A} {upper solve : ℕ → (ℕ → A) → ℕ → A} {call : Call A} {state : State A} {x : Answer} where
-  pub called-refused : {r : Refusal} → x ≡ Refused r → answerNumber x ≡ callAnswer count lens grid knots call state
+module _ {count : ℕ} {lens : List ℕ} {grid knots : List Check} {A : Type 0} {o : A} {upper solve : ℕ → (ℕ → A) → ℕ → A} {call : Call A} {state : State A} where
+  pub called-refused : (r : Refusal) → refusalNumber r ≡ callAnswer count lens grid knots call state
       → LineCalled count lens grid knots o upper solve call state (refusalNumber r) state (call .scratch)
   unfolding lineCall callScratch
-  called-refused {r} told e =
-      let same = is-refused told e in
+  called-refused r same =
       let some : eqb (callAnswer count lens grid knots call state) 0 ≡ false = ne-eqb _ 0 (λ z. refusal-some r (same ∙ z)) in
       record { answered = same; leaves = rw some; scratch-after = rw some }
 
-  pub called-accepted : {coefs′ scratch′ : List A} {ledger′ : List ℕ} → x ≡ Accepted → answerNumber x ≡ callAnswer count lens grid knots call state
+  pub called-accepted : callAnswer count lens grid knots call state ≡ 0 → {coefs′ scratch′ : List A} {ledger′ : List ℕ}
       → coefs′ ≡ solveLine o (solve (call .axis)) (points (take count lens) (call .axis)) (stride (take count lens) (call .axis)) (call .line) (state .coefs)
       → ledger′ ≡ bumped (take count lens) (call .axis) (call .line) (state .ledger)
       → scratch′ ≡ lineScratch (longest (take count lens)) (upper (call .axis) (along o (take count lens) (call .axis) (call .line) (state .coefs)))
       (solve (call .axis) (along o (take count lens) (call .axis) (call .line) (state .coefs))) (points (take count lens) (call .axis)) (call .scratch)
       → LineCalled count lens grid knots o upper solve call state 0 (record { coefs = coefs′; ledger = ledger′ }) scratch′
   unfolding lineCall callScratch
-  called-accepted told e ec el es =
-      let ok = is-accepted told e in
+  called-accepted ok ec el es =
       record {
         answered = sym ok;
         leaves = rw ok (ap₂ (λ (xs : List A) (bytes : List ℕ). record { coefs = xs; ledger = bytes }) ec el);
         scratch-after = rw ok es;
       }
 
--- what an accepted call may take for granted
-pub record Callable {A : Type 0} (count : ℕ) (lens : List ℕ) (grid knots : List Check) (call : Call A) (state : State A) : Type 0 where
-  pub shape : Usable count lens
-  pub is-axis : call .axis < count
-  pub passed : CallPassed count lens grid knots call state
+-- a call that is refused before its line is looked at
+pub called-unready : (count : ℕ) (lens : List ℕ) (grid knots : List Check) → Positive grid → Positive knots → {A : Type 0} {o : A} {upper solve : ℕ → (ℕ → A) → ℕ → A} (call : Call A) (state : State A)
+    → {x : Answer} {r : Refusal} → x ≡ Refused r
+    → answerNumber x ≡ firstRefusal (callReadyChecks count lens grid knots (length (state .coefs)) (length (state .ledger)) (length (call .scratch)))
+    → LineCalled count lens grid knots o upper solve call state (refusalNumber r) state (call .scratch)
+called-unready count lens grid knots pg pk call state {r = r} told e = called-refused r (call-not-ready count lens grid knots pg pk call state told e)
 
-pub callable : (count : ℕ) (lens : List ℕ) (grid knots : List Check) → Positive grid → Positive knots → length lens ≡ 4 → {A : Type 0} (call : Call A) (state : State A)
-    → {x : Answer} → x ≡ Accepted → answerNumber x ≡ callAnswer count lens grid knots call state → Callable count lens grid knots call state
-callable count lens grid knots pg pk four call state told e =
-    let p = call-passed count lens grid knots pg pk call state (is-accepted told e) in
-    let u = usable count lens four (p .ready .shape-passed) in
-    record { shape = u; is-axis = rw (axes-are count lens four u) at (p .due .is-axis); passed = p }
+-- what a call may take for granted of a line that is found to be due, where all else is checked
+pub record LineDue {A : Type 0} (count : ℕ) (lens : List ℕ) (grid knots : List Check) (call : Call A) (state : State A) (found : Line) : Type 0 where
+  pub ready : CallReady count lens grid knots (length (state .coefs)) (length (state .ledger)) (length (call .scratch))
+  pub is-axis : call .axis < count
+  pub numbers : LineIs (take count lens) (call .axis) (call .line) found
+  pub accepted : callAnswer count lens grid knots call state ≡ 0
+  pub fits : LineFits found (length (state .coefs)) (length (call .scratch))
+  pub inside : LineInside found (length (state .ledger))
+  pub bytes : EachByte (call .axis) found (state .ledger)
+
+module _ (count : ℕ) (lens : List ℕ) (grid knots : List Check) (pg : Positive grid) (pk : Positive knots) {A : Type 0} (call : Call A) (state : State A)
+    (ok : firstRefusal (callReadyChecks count lens grid knots (length (state .coefs)) (length (state .ledger)) (length (call .scratch))) ≡ 0) where
+  left : callAnswer count lens grid knots call state ≡ firstRefusal (dueChecks (take count lens) (call .axis) (call .line) (state .ledger))
+  left = line-left count lens grid knots pg pk call state ok
+
+  pub not-due : {o : A} {upper solve : ℕ → (ℕ → A) → ℕ → A} {x : Due} {r : Refusal} → x ≡ Dues.Refused r → DueLooked (take count lens) (call .axis) (call .line) (state .ledger) x
+      → LineCalled count lens grid knots o upper solve call state (refusalNumber r) state (call .scratch)
+  not-due {r = r} told w = called-refused r ((rw told at w) ∙ sym left)
+
+  pub line-due : length lens ≡ 4 → {x : Due} {found : Line} → x ≡ At found → DueLooked (take count lens) (call .axis) (call .line) (state .ledger) x
+      → LineDue count lens grid knots call state found
+  line-due four {found = found} told w =
+      let ready = call-ready count lens grid knots pg pk (length (state .coefs)) (length (state .ledger)) (length (call .scratch)) four ok in
+      let u = ready .shape in
+      let p : LineIs (take count lens) (call .axis) (call .line) found × (firstRefusal (dueChecks (take count lens) (call .axis) (call .line) (state .ledger)) ≡ 0) = rw told at w in
+      record {
+        ready = ready;
+        is-axis = on-axis count lens four u (call .axis) (call .line) (p .0);
+        numbers = p .0;
+        accepted = left ∙ p .1;
+        fits = line-fits count lens four u (call .axis) (call .line) (p .0) (ready .coefs-size) (ready .scratch-room);
+        inside = line-inside count lens four u (call .axis) (call .line) (p .0) (ready .ledger-size);
+        bytes = due-each (take count lens) (call .axis) (call .line) (state .ledger) (p .0) (p .1);
+      }
 
 -- ---- one call of a list
 
@@ -181,6 +216,16 @@ module _ (count : ℕ) (lens : List ℕ) (grid knots : List Check) (pg : Positiv
   list-lengths ok e = e ∙ sym (passed-append (beginChecks count lens grid knots samples coefs ledger scratch) _ begin-positive ok)
 
 -- ---- begin and then a list
+
+-- what begin leaves needs no more checks than those of the line itself
+pub begun-calls : (count : ℕ) (lens : List ℕ) (grid knots : List Check) → Positive grid → Positive knots → {A : Type 0} {samples coefs₁ : List A} {ledger₁ : List ℕ} (coefs ledger scratch : ℕ)
+    → beginAnswer count lens grid knots (length samples) coefs ledger scratch ≡ 0 → coefs₁ ≡ samples → ledger₁ ≡ replicate ledger 0
+    → firstRefusal (callReadyChecks count lens grid knots (length coefs₁) (length ledger₁) scratch) ≡ 0
+begun-calls count lens grid knots pg pk {samples = samples} {coefs₁ = coefs₁} {ledger₁ = ledger₁} coefs ledger scratch e ec el =
+    let p = begin-passed count lens grid knots pg pk (length samples) coefs ledger scratch e in
+    let hc : length coefs₁ ≡ coefs = ap length ec ∙ p .samples-size ∙ sym (p .coefs-size) in
+    let hl : length ledger₁ ≡ ledger = ap length el ∙ length-replicate ledger 0 in
+    rw (hc, hl) (begun-ready count lens grid knots pg pk coefs ledger scratch (length samples) e)
 
 module _ {count : ℕ} {lens : List ℕ} {grid knots : List Check} {A : Type 0} {o : A} {upper solve : ℕ → (ℕ → A) → ℕ → A} {samples : List A} {axes lines : List ℕ} {state : State A} {scratch : List A} {told : List ℕ} where
   ran-refused : (r : Refusal)

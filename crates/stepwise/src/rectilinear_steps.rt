@@ -1,34 +1,38 @@
-// Stepwise fitting on a rectilinear grid: `grid` has the knots of each axis, axis after axis.
+// Begin and the line call on a rectilinear grid: `grid` has the knots of each axis, axis after axis.
 ghost use mathlib.Core.Path.{_≡_};
-ghost use Prim.Native.Nat.{_*_, _≤_, _<_};
-ghost use lib.ListN.{length, take, getD};
+ghost use Prim.Native.Nat.{_<_};
+ghost use lib.ListN.{length, take};
 ghost use lib.Ieee.{binary64, nan};
-ghost use Rattle.shape.specs.Shape.{longest, size, points, stride, lines};
+ghost use Rattle.shape.specs.Shape.{points};
+ghost use Rattle.shape.specs.Cells.{line, writeLine};
 ghost use Rattle.shape.specs.Checks.{firstRefusal};
-ghost use Rattle.shape.specs.Fit.{solveLine, lineScratch, along};
+ghost use Rattle.shape.specs.Fit.{lineScratch};
 ghost use Rattle.shape.specs.Usable.{Usable};
+ghost use Rattle.shape.specs.Line.{LineFits};
 ghost use Rattle.shape.specs.Refusal.{answerNumber};
 ghost use Rattle.knots.specs.Joined.{total};
 ghost use Rattle.knots.specs.Checks.{gridCheck, knotsCheck};
 ghost use Rattle.rectilinear.specs.Fit.{solve, upper};
-ghost use Rattle.ledger.specs.Ready.{readyChecks};
-ghost use Rattle.book.specs.LineCall.{beginAnswer, callAnswer};
-ghost use Rattle.stepwise.specs.Rectilinear.{RectilinearBegun, RectilinearLineCalled, RectilinearOneRan, RectilinearListRan, RectilinearRan};
+ghost use Rattle.ledger.specs.Ready.{readyChecks, callReadyChecks};
+ghost use Rattle.book.specs.LineCall.{beginAnswer, callOf, stateOf};
+ghost use Rattle.stepwise.specs.Rectilinear.{RectilinearBegun, RectilinearLineCalled};
 use knots::all_rise;
 use knots::axis_knots;
 use knots::grid_len;
+use ledger::Due;
 use ledger::bump_line;
 use ledger::check_held;
 use ledger::check_lent;
-use ledger::check_line;
-use ledger::check_lists;
+use ledger::check_scratch;
+use ledger::find_due;
 use ledger::start;
-use rectilinear::solve_nth;
+use rectilinear_lines::solve_checked;
 use rectilinear_weights::high_ghost_coeffs;
 use rectilinear_weights::low_ghost_coeffs;
 use shape::Answer;
 use shape::Refusal;
 use shape::Shape;
+use shape::inner::Line;
 
 // ---- what begin and the line call check first
 
@@ -74,7 +78,7 @@ fn check_ready(count: usize, dims: [usize; 4], grid: &[f64], coeffs: usize, ledg
 // ---- begin
 
 // The checks of begin, from the joined grid and the lengths of the buffers.
-fn check_begin(
+pub fn check_begin(
     count: usize,
     dims: [usize; 4],
     grid: &[f64],
@@ -101,7 +105,7 @@ pub fn begin_rectilinear_by_len(
     ledger: &mut [u8],
     scratch: usize,
 ) -> Answer
-    ensures { λ r. ⌜ RectilinearBegun count dims (now (grid .entry)) (now (vals .entry)) (record { coefs = now (coeffs .entry); ledger = now (ledger .entry) }) scratch (answerNumber r) (record { coefs = now (coeffs .exit); ledger = now (ledger .exit) }) ⌝ }
+    ensures { λ r. ⌜ RectilinearBegun count dims (now (grid .entry)) (now (vals .entry)) (stateOf (now (coeffs .entry)) (now (ledger .entry))) scratch (answerNumber r) (stateOf (now (coeffs .exit)) (now (ledger .exit))) ⌝ }
 {
     if let Answer::Refused(refusal) = check_begin(
         count,
@@ -131,7 +135,7 @@ pub fn begin_rectilinear(
     ledger: &mut [u8],
     scratch: &[f64],
 ) -> Answer
-    ensures { λ r. ⌜ RectilinearBegun (shape .count) (shape .dims) (now (grid .entry)) (now (vals .entry)) (record { coefs = now (coeffs .entry); ledger = now (ledger .entry) }) (length (now (scratch .entry))) (answerNumber r) (record { coefs = now (coeffs .exit); ledger = now (ledger .exit) }) ⌝ }
+    ensures { λ r. ⌜ RectilinearBegun (shape .count) (shape .dims) (now (grid .entry)) (now (vals .entry)) (stateOf (now (coeffs .entry)) (now (ledger .entry))) (length (now (scratch .entry))) (answerNumber r) (stateOf (now (coeffs .exit)) (now (ledger .exit))) ⌝ }
 {
     let count = shape.count;
     let dims = shape.dims;
@@ -140,58 +144,75 @@ pub fn begin_rectilinear(
 
 // ---- the line call
 
-// The checks of a line call.
+// All that a line call checks but the line itself, from the lengths of its buffers.
 fn check_call(
     count: usize,
     dims: [usize; 4],
     grid: &[f64],
-    axis: usize,
-    line: usize,
-    coeffs: &[f64],
-    ledger: &[u8],
-    scratch: &[f64],
+    coeffs: usize,
+    ledger: usize,
+    scratch: usize,
 ) -> Answer
-    ensures { λ r. ⌜ answerNumber r ≡ callAnswer count dims (gridCheck (take count dims) (now (grid .entry))) (knotsCheck (take count dims) (now (grid .entry))) (record { axis = axis; line = line; scratch = now (scratch .entry) }) (record { coefs = now (coeffs .entry); ledger = now (ledger .entry) }) ⌝ }
+    ensures { λ r. ⌜ answerNumber r ≡ firstRefusal (callReadyChecks count dims (gridCheck (take count dims) (now (grid .entry))) (knotsCheck (take count dims) (now (grid .entry))) coeffs ledger scratch) ⌝ }
 {
-    if let Answer::Refused(refusal) = check_ready(count, dims, grid, coeffs.len(), ledger.len()) {
+    if let Answer::Refused(refusal) = check_ready(count, dims, grid, coeffs, ledger) {
         return Answer::Refused(refusal);
     }
-    check_line(count, dims, axis, line, ledger, scratch.len())
+    check_scratch(count, dims, scratch)
 }
 
 // A line that is known to be one of the map's is solved.
-fn solve_due(
+fn solve_found(
+    count: usize,
+    dims: [usize; 4],
+    grid: &[f64],
+    axis: usize,
+    found: Line,
+    coeffs: &mut [f64],
+    scratch: &mut [f64],
+)
+    requires { ⌜ (axis < count) × Usable count dims × (length (now grid) ≡ total (take count dims)) × (found .n ≡ points (take count dims) axis) ⌝ }
+    requires { ⌜ LineFits found (length (now coeffs)) (length (now scratch)) ⌝ }
+    ensures { λ _. ⌜ now (coeffs .exit) ≡ writeLine (found .base) (found .stride) (solve binary64 (now (grid .entry)) (take count dims) axis (line nan (found .base) (found .stride) (now (coeffs .entry)))) (found .n) (now (coeffs .entry)) ⌝ }
+    ensures { λ _. ⌜ now (scratch .exit) ≡ lineScratch (found .longest) (upper binary64 (now (grid .entry)) (take count dims) axis (line nan (found .base) (found .stride) (now (coeffs .entry)))) (solve binary64 (now (grid .entry)) (take count dims) axis (line nan (found .base) (found .stride) (now (coeffs .entry)))) (found .n) (now (scratch .entry)) ⌝ }
+{
+    let knots = axis_knots(grid, count, dims, axis);
+    let low_ghost = low_ghost_coeffs(knots);
+    let high_ghost = high_ghost_coeffs(knots);
+    solve_checked(
+        knots,
+        low_ghost,
+        high_ghost,
+        found.base,
+        found.stride,
+        found.longest,
+        coeffs,
+        scratch,
+    );
+}
+
+// A line call whose other checks have passed: what is left to check is the line.
+pub fn call_ready(
     count: usize,
     dims: [usize; 4],
     grid: &[f64],
     axis: usize,
     line: usize,
     coeffs: &mut [f64],
+    ledger: &mut [u8],
     scratch: &mut [f64],
-)
-    requires { ⌜ (axis < count) × Usable count dims × (line < lines (take count dims) axis) × (length (now grid) ≡ total (take count dims)) ⌝ }
-    requires { ⌜ (length (now coeffs) ≡ size (take count dims)) × (2 * longest (take count dims) ≤ length (now scratch)) ⌝ }
-    ensures { λ _. ⌜ now (coeffs .exit) ≡ solveLine nan (solve binary64 (now (grid .entry)) (take count dims) axis) (points (take count dims) axis) (stride (take count dims) axis) line (now (coeffs .entry)) ⌝ }
-    ensures { λ _. ⌜ now (scratch .exit) ≡ lineScratch (longest (take count dims)) (upper binary64 (now (grid .entry)) (take count dims) axis (along nan (take count dims) axis line (now (coeffs .entry)))) (solve binary64 (now (grid .entry)) (take count dims) axis (along nan (take count dims) axis line (now (coeffs .entry)))) (points (take count dims) axis) (now (scratch .entry)) ⌝ }
+) -> Answer
+    requires { ⌜ firstRefusal (callReadyChecks count dims (gridCheck (take count dims) (now grid)) (knotsCheck (take count dims) (now grid)) (length (now coeffs)) (length (now ledger)) (length (now scratch))) ≡ 0 ⌝ }
+    ensures { λ r. ⌜ RectilinearLineCalled binary64 count dims (now (grid .entry)) (callOf axis line (now (scratch .entry))) (stateOf (now (coeffs .entry)) (now (ledger .entry))) (answerNumber r) (stateOf (now (coeffs .exit)) (now (ledger .exit))) (now (scratch .exit)) ⌝ }
 {
-    let shape = Shape { count, dims };
-    let s = shape.stride(axis);
-    let lines = shape.lines(axis);
-    let m = shape.longest();
-    let knots = axis_knots(grid, count, dims, axis);
-    let low_ghost = low_ghost_coeffs(knots);
-    let high_ghost = high_ghost_coeffs(knots);
-    solve_nth(
-        knots,
-        low_ghost,
-        high_ghost,
-        s,
-        lines,
-        m,
-        line,
-        coeffs,
-        scratch,
-    );
+    match find_due(count, dims, axis, line, ledger) {
+        Due::At(found) => {
+            solve_found(count, dims, grid, axis, found, coeffs, scratch);
+            bump_line(axis, found, ledger);
+            Answer::Accepted
+        }
+        Due::Refused(refusal) => Answer::Refused(refusal),
+    }
 }
 
 fn line_call(
@@ -204,23 +225,19 @@ fn line_call(
     ledger: &mut [u8],
     scratch: &mut [f64],
 ) -> Answer
-    ensures { λ r. ⌜ RectilinearLineCalled binary64 count dims (now (grid .entry)) (record { axis = axis; line = line; scratch = now (scratch .entry) }) (record { coefs = now (coeffs .entry); ledger = now (ledger .entry) }) (answerNumber r) (record { coefs = now (coeffs .exit); ledger = now (ledger .exit) }) (now (scratch .exit)) ⌝ }
+    ensures { λ r. ⌜ RectilinearLineCalled binary64 count dims (now (grid .entry)) (callOf axis line (now (scratch .entry))) (stateOf (now (coeffs .entry)) (now (ledger .entry))) (answerNumber r) (stateOf (now (coeffs .exit)) (now (ledger .exit))) (now (scratch .exit)) ⌝ }
 {
     if let Answer::Refused(refusal) = check_call(
         count,
         dims,
         grid,
-        axis,
-        line,
-        coeffs,
-        ledger,
-        scratch,
+        coeffs.len(),
+        ledger.len(),
+        scratch.len(),
     ) {
         return Answer::Refused(refusal);
     }
-    solve_due(count, dims, grid, axis, line, coeffs, scratch);
-    bump_line(count, dims, axis, line, ledger);
-    Answer::Accepted
+    call_ready(count, dims, grid, axis, line, coeffs, ledger, scratch)
 }
 
 // Solves one line that is due: its cells of `coeffs` become its coefficients, and 1 is added to its ledger bytes. No other
@@ -238,148 +255,9 @@ pub fn solve_rectilinear_line(
     ledger: &mut [u8],
     scratch: &mut [f64],
 ) -> Answer
-    ensures { λ r. ⌜ RectilinearLineCalled binary64 (shape .count) (shape .dims) (now (grid .entry)) (record { axis = axis; line = line; scratch = now (scratch .entry) }) (record { coefs = now (coeffs .entry); ledger = now (ledger .entry) }) (answerNumber r) (record { coefs = now (coeffs .exit); ledger = now (ledger .exit) }) (now (scratch .exit)) ⌝ }
+    ensures { λ r. ⌜ RectilinearLineCalled binary64 (shape .count) (shape .dims) (now (grid .entry)) (callOf axis line (now (scratch .entry))) (stateOf (now (coeffs .entry)) (now (ledger .entry))) (answerNumber r) (stateOf (now (coeffs .exit)) (now (ledger .exit))) (now (scratch .exit)) ⌝ }
 {
     let count = shape.count;
     let dims = shape.dims;
     line_call(count, dims, grid, axis, line, coeffs, ledger, scratch)
-}
-
-// ---- a list of line calls
-
-// Call i of a list; its answer goes into byte i.
-fn run_one(
-    count: usize,
-    dims: [usize; 4],
-    grid: &[f64],
-    axes: &[usize],
-    lines: &[usize],
-    i: usize,
-    coeffs: &mut [f64],
-    ledger: &mut [u8],
-    scratch: &mut [f64],
-    answers: &mut [u8],
-)
-    requires { ⌜ (i < length (now axes)) × (length (now lines) ≡ length (now axes)) × (length (now answers) ≡ length (now axes)) ⌝ }
-    ensures { λ _. ⌜ RectilinearOneRan binary64 count dims (now (grid .entry)) (record { axis = getD (now (axes .entry)) i 0; line = getD (now (lines .entry)) i 0; scratch = now (scratch .entry) }) i (record { coefs = now (coeffs .entry); ledger = now (ledger .entry) }) (now (answers .entry)) (record { coefs = now (coeffs .exit); ledger = now (ledger .exit) }) (now (scratch .exit)) (now (answers .exit)) ⌝ }
-{
-    let answer = line_call(
-        count,
-        dims,
-        grid,
-        axes[i],
-        lines[i],
-        coeffs,
-        ledger,
-        scratch,
-    );
-    let number = answer.number();
-    answers[i] = number as u8;
-}
-
-// All the calls of a list, one after the other.
-fn run_list(
-    count: usize,
-    dims: [usize; 4],
-    grid: &[f64],
-    axes: &[usize],
-    lines: &[usize],
-    coeffs: &mut [f64],
-    ledger: &mut [u8],
-    scratch: &mut [f64],
-    answers: &mut [u8],
-)
-    requires { ⌜ (length (now lines) ≡ length (now axes)) × (length (now answers) ≡ length (now axes)) ⌝ }
-    ensures { λ _. ⌜ RectilinearListRan binary64 count dims (now (grid .entry)) (now (axes .entry)) (now (lines .entry)) (record { coefs = now (coeffs .entry); ledger = now (ledger .entry) }) (now (scratch .entry)) (record { coefs = now (coeffs .exit); ledger = now (ledger .exit) }) (now (scratch .exit)) (now (answers .exit)) ⌝ }
-{
-    for i in 0..axes.len() {
-        run_one(
-            count,
-            dims,
-            grid,
-            axes,
-            lines,
-            i,
-            coeffs,
-            ledger,
-            scratch,
-            answers,
-        );
-    }
-}
-
-fn fit_by_list(
-    count: usize,
-    dims: [usize; 4],
-    grid: &[f64],
-    vals: &[f64],
-    axes: &[usize],
-    lines: &[usize],
-    coeffs: &mut [f64],
-    ledger: &mut [u8],
-    scratch: &mut [f64],
-    answers: &mut [u8],
-) -> Answer
-    ensures { λ r. ⌜ RectilinearRan binary64 count dims (now (grid .entry)) (now (vals .entry)) (now (axes .entry)) (now (lines .entry)) (record { coefs = now (coeffs .entry); ledger = now (ledger .entry) }) (now (scratch .entry)) (now (answers .entry)) (answerNumber r) (record { coefs = now (coeffs .exit); ledger = now (ledger .exit) }) (now (scratch .exit)) (now (answers .exit)) ⌝ }
-{
-    if let Answer::Refused(refusal) = check_begin(
-        count,
-        dims,
-        grid,
-        vals.len(),
-        coeffs.len(),
-        ledger.len(),
-        scratch.len(),
-    ) {
-        return Answer::Refused(refusal);
-    }
-    if let Answer::Refused(refusal) = check_lists(axes.len(), lines.len(), answers.len()) {
-        return Answer::Refused(refusal);
-    }
-    start(vals, coeffs, ledger);
-    run_list(
-        count,
-        dims,
-        grid,
-        axes,
-        lines,
-        coeffs,
-        ledger,
-        scratch,
-        answers,
-    );
-    Answer::Accepted
-}
-
-// Begins a fit and makes a list of line calls, one after the other: call i solves line `lines[i]` of axis `axes[i]`, and its
-// answer goes into `answers[i]`, 0 where the line was solved. The list may have any order and any length, and a refused call
-// changes nothing; the fit is finished when every ledger byte is the axis count. Answers the first of these refusals, with
-// nothing written: those of `begin_rectilinear`; then 2, the length of `lines` is not that of `axes`; 2, nor is that of `answers`.
-pub fn fit_rectilinear_by_list(
-    shape: Shape,
-    grid: &[f64],
-    vals: &[f64],
-    axes: &[usize],
-    lines: &[usize],
-    coeffs: &mut [f64],
-    ledger: &mut [u8],
-    scratch: &mut [f64],
-    answers: &mut [u8],
-) -> Answer
-    ensures { λ r. ⌜ RectilinearRan binary64 (shape .count) (shape .dims) (now (grid .entry)) (now (vals .entry)) (now (axes .entry)) (now (lines .entry)) (record { coefs = now (coeffs .entry); ledger = now (ledger .entry) }) (now (scratch .entry)) (now (answers .entry)) (answerNumber r) (record { coefs = now (coeffs .exit); ledger = now (ledger .exit) }) (now (scratch .exit)) (now (answers .exit)) ⌝ }
-{
-    let count = shape.count;
-    let dims = shape.dims;
-    fit_by_list(
-        count,
-        dims,
-        grid,
-        vals,
-        axes,
-        lines,
-        coeffs,
-        ledger,
-        scratch,
-        answers,
-    )
 }

@@ -1,25 +1,21 @@
-// Stepwise fitting on a regular grid.
+// Begin and the line call on a regular grid.
 ghost use mathlib.Core.Path.{_≡_};
 ghost use mathlib.Core.List.{[]};
-ghost use Prim.Native.Nat.{_*_, _≤_, _<_};
-ghost use lib.ListN.{length, take, getD};
-ghost use lib.Ieee.{binary64, nan};
-ghost use Rattle.shape.specs.Shape.{longest, size, points, stride, lines};
+ghost use lib.ListN.{length};
+ghost use lib.Ieee.{binary64};
 ghost use Rattle.shape.specs.Checks.{firstRefusal};
-ghost use Rattle.shape.specs.Fit.{solveLine, lineScratch, along};
-ghost use Rattle.shape.specs.Usable.{Usable};
 ghost use Rattle.shape.specs.Refusal.{answerNumber};
-ghost use Rattle.regular.specs.Fit.{solve, upper};
-ghost use Rattle.ledger.specs.Ready.{readyChecks};
-ghost use Rattle.book.specs.LineCall.{beginAnswer, callAnswer};
-ghost use Rattle.stepwise.specs.Regular.{RegularBegun, RegularLineCalled, RegularOneRan, RegularListRan, RegularRan};
+ghost use Rattle.ledger.specs.Ready.{readyChecks, callReadyChecks};
+ghost use Rattle.book.specs.LineCall.{beginAnswer, callOf, stateOf};
+ghost use Rattle.stepwise.specs.Regular.{RegularBegun, RegularLineCalled};
+use ledger::Due;
 use ledger::bump_line;
 use ledger::check_held;
 use ledger::check_lent;
-use ledger::check_line;
-use ledger::check_lists;
+use ledger::check_scratch;
+use ledger::find_due;
 use ledger::start;
-use regular::solve_nth;
+use regular_lines::solve_checked;
 use shape::Answer;
 use shape::Shape;
 
@@ -39,7 +35,7 @@ fn check_ready(count: usize, dims: [usize; 4], coeffs: usize, ledger: usize) -> 
 // ---- begin
 
 // The checks of begin, from the lengths of its buffers.
-fn check_begin(
+pub fn check_begin(
     count: usize,
     dims: [usize; 4],
     vals: usize,
@@ -64,7 +60,7 @@ pub fn begin_regular_by_len(
     ledger: &mut [u8],
     scratch: usize,
 ) -> Answer
-    ensures { λ r. ⌜ RegularBegun count dims (now (vals .entry)) (record { coefs = now (coeffs .entry); ledger = now (ledger .entry) }) scratch (answerNumber r) (record { coefs = now (coeffs .exit); ledger = now (ledger .exit) }) ⌝ }
+    ensures { λ r. ⌜ RegularBegun count dims (now (vals .entry)) (stateOf (now (coeffs .entry)) (now (ledger .entry))) scratch (answerNumber r) (stateOf (now (coeffs .exit)) (now (ledger .exit))) ⌝ }
 {
     if let Answer::Refused(refusal) = check_begin(
         count,
@@ -92,7 +88,7 @@ pub fn begin_regular(
     ledger: &mut [u8],
     scratch: &[f64],
 ) -> Answer
-    ensures { λ r. ⌜ RegularBegun (shape .count) (shape .dims) (now (vals .entry)) (record { coefs = now (coeffs .entry); ledger = now (ledger .entry) }) (length (now (scratch .entry))) (answerNumber r) (record { coefs = now (coeffs .exit); ledger = now (ledger .exit) }) ⌝ }
+    ensures { λ r. ⌜ RegularBegun (shape .count) (shape .dims) (now (vals .entry)) (stateOf (now (coeffs .entry)) (now (ledger .entry))) (length (now (scratch .entry))) (answerNumber r) (stateOf (now (coeffs .exit)) (now (ledger .exit))) ⌝ }
 {
     let count = shape.count;
     let dims = shape.dims;
@@ -101,43 +97,50 @@ pub fn begin_regular(
 
 // ---- the line call
 
-// The checks of a line call.
+// All that a line call checks but the line itself, from the lengths of its buffers.
 fn check_call(
     count: usize,
     dims: [usize; 4],
-    axis: usize,
-    line: usize,
-    coeffs: &[f64],
-    ledger: &[u8],
-    scratch: &[f64],
+    coeffs: usize,
+    ledger: usize,
+    scratch: usize,
 ) -> Answer
-    ensures { λ r. ⌜ answerNumber r ≡ callAnswer count dims [] [] (record { axis = axis; line = line; scratch = now (scratch .entry) }) (record { coefs = now (coeffs .entry); ledger = now (ledger .entry) }) ⌝ }
+    ensures { λ r. ⌜ answerNumber r ≡ firstRefusal (callReadyChecks count dims [] [] coeffs ledger scratch) ⌝ }
 {
-    if let Answer::Refused(refusal) = check_ready(count, dims, coeffs.len(), ledger.len()) {
+    if let Answer::Refused(refusal) = check_ready(count, dims, coeffs, ledger) {
         return Answer::Refused(refusal);
     }
-    check_line(count, dims, axis, line, ledger, scratch.len())
+    check_scratch(count, dims, scratch)
 }
 
-// A line that is known to be one of the map's is solved.
-fn solve_due(
+// A line call whose other checks have passed: what is left to check is the line.
+pub fn call_ready(
     count: usize,
     dims: [usize; 4],
     axis: usize,
     line: usize,
     coeffs: &mut [f64],
+    ledger: &mut [u8],
     scratch: &mut [f64],
-)
-    requires { ⌜ (axis < count) × Usable count dims × (line < lines (take count dims) axis) ⌝ }
-    requires { ⌜ (length (now coeffs) ≡ size (take count dims)) × (2 * longest (take count dims) ≤ length (now scratch)) ⌝ }
-    ensures { λ _. ⌜ now (coeffs .exit) ≡ solveLine nan (solve binary64 (take count dims) axis) (points (take count dims) axis) (stride (take count dims) axis) line (now (coeffs .entry)) ⌝ }
-    ensures { λ _. ⌜ now (scratch .exit) ≡ lineScratch (longest (take count dims)) (upper binary64 (take count dims) axis (along nan (take count dims) axis line (now (coeffs .entry)))) (solve binary64 (take count dims) axis (along nan (take count dims) axis line (now (coeffs .entry)))) (points (take count dims) axis) (now (scratch .entry)) ⌝ }
+) -> Answer
+    requires { ⌜ firstRefusal (callReadyChecks count dims [] [] (length (now coeffs)) (length (now ledger)) (length (now scratch))) ≡ 0 ⌝ }
+    ensures { λ r. ⌜ RegularLineCalled binary64 count dims (callOf axis line (now (scratch .entry))) (stateOf (now (coeffs .entry)) (now (ledger .entry))) (answerNumber r) (stateOf (now (coeffs .exit)) (now (ledger .exit))) (now (scratch .exit)) ⌝ }
 {
-    let shape = Shape { count, dims };
-    let s = shape.stride(axis);
-    let lines = shape.lines(axis);
-    let m = shape.longest();
-    solve_nth(dims[axis], s, lines, m, line, coeffs, scratch);
+    match find_due(count, dims, axis, line, ledger) {
+        Due::At(found) => {
+            solve_checked(
+                found.base,
+                found.stride,
+                found.n,
+                found.longest,
+                coeffs,
+                scratch,
+            );
+            bump_line(axis, found, ledger);
+            Answer::Accepted
+        }
+        Due::Refused(refusal) => Answer::Refused(refusal),
+    }
 }
 
 fn line_call(
@@ -149,14 +152,18 @@ fn line_call(
     ledger: &mut [u8],
     scratch: &mut [f64],
 ) -> Answer
-    ensures { λ r. ⌜ RegularLineCalled binary64 count dims (record { axis = axis; line = line; scratch = now (scratch .entry) }) (record { coefs = now (coeffs .entry); ledger = now (ledger .entry) }) (answerNumber r) (record { coefs = now (coeffs .exit); ledger = now (ledger .exit) }) (now (scratch .exit)) ⌝ }
+    ensures { λ r. ⌜ RegularLineCalled binary64 count dims (callOf axis line (now (scratch .entry))) (stateOf (now (coeffs .entry)) (now (ledger .entry))) (answerNumber r) (stateOf (now (coeffs .exit)) (now (ledger .exit))) (now (scratch .exit)) ⌝ }
 {
-    if let Answer::Refused(refusal) = check_call(count, dims, axis, line, coeffs, ledger, scratch) {
+    if let Answer::Refused(refusal) = check_call(
+        count,
+        dims,
+        coeffs.len(),
+        ledger.len(),
+        scratch.len(),
+    ) {
         return Answer::Refused(refusal);
     }
-    solve_due(count, dims, axis, line, coeffs, scratch);
-    bump_line(count, dims, axis, line, ledger);
-    Answer::Accepted
+    call_ready(count, dims, axis, line, coeffs, ledger, scratch)
 }
 
 // Solves one line that is due: its cells of `coeffs` become its coefficients, and 1 is added to its ledger bytes. No other
@@ -173,122 +180,9 @@ pub fn solve_regular_line(
     ledger: &mut [u8],
     scratch: &mut [f64],
 ) -> Answer
-    ensures { λ r. ⌜ RegularLineCalled binary64 (shape .count) (shape .dims) (record { axis = axis; line = line; scratch = now (scratch .entry) }) (record { coefs = now (coeffs .entry); ledger = now (ledger .entry) }) (answerNumber r) (record { coefs = now (coeffs .exit); ledger = now (ledger .exit) }) (now (scratch .exit)) ⌝ }
+    ensures { λ r. ⌜ RegularLineCalled binary64 (shape .count) (shape .dims) (callOf axis line (now (scratch .entry))) (stateOf (now (coeffs .entry)) (now (ledger .entry))) (answerNumber r) (stateOf (now (coeffs .exit)) (now (ledger .exit))) (now (scratch .exit)) ⌝ }
 {
     let count = shape.count;
     let dims = shape.dims;
     line_call(count, dims, axis, line, coeffs, ledger, scratch)
-}
-
-// ---- a list of line calls
-
-// Call i of a list; its answer goes into byte i.
-fn run_one(
-    count: usize,
-    dims: [usize; 4],
-    axes: &[usize],
-    lines: &[usize],
-    i: usize,
-    coeffs: &mut [f64],
-    ledger: &mut [u8],
-    scratch: &mut [f64],
-    answers: &mut [u8],
-)
-    requires { ⌜ (i < length (now axes)) × (length (now lines) ≡ length (now axes)) × (length (now answers) ≡ length (now axes)) ⌝ }
-    ensures { λ _. ⌜ RegularOneRan binary64 count dims (record { axis = getD (now (axes .entry)) i 0; line = getD (now (lines .entry)) i 0; scratch = now (scratch .entry) }) i (record { coefs = now (coeffs .entry); ledger = now (ledger .entry) }) (now (answers .entry)) (record { coefs = now (coeffs .exit); ledger = now (ledger .exit) }) (now (scratch .exit)) (now (answers .exit)) ⌝ }
-{
-    let answer = line_call(count, dims, axes[i], lines[i], coeffs, ledger, scratch);
-    let number = answer.number();
-    answers[i] = number as u8;
-}
-
-// All the calls of a list, one after the other.
-fn run_list(
-    count: usize,
-    dims: [usize; 4],
-    axes: &[usize],
-    lines: &[usize],
-    coeffs: &mut [f64],
-    ledger: &mut [u8],
-    scratch: &mut [f64],
-    answers: &mut [u8],
-)
-    requires { ⌜ (length (now lines) ≡ length (now axes)) × (length (now answers) ≡ length (now axes)) ⌝ }
-    ensures { λ _. ⌜ RegularListRan binary64 count dims (now (axes .entry)) (now (lines .entry)) (record { coefs = now (coeffs .entry); ledger = now (ledger .entry) }) (now (scratch .entry)) (record { coefs = now (coeffs .exit); ledger = now (ledger .exit) }) (now (scratch .exit)) (now (answers .exit)) ⌝ }
-{
-    for i in 0..axes.len() {
-        run_one(
-            count,
-            dims,
-            axes,
-            lines,
-            i,
-            coeffs,
-            ledger,
-            scratch,
-            answers,
-        );
-    }
-}
-
-fn fit_by_list(
-    count: usize,
-    dims: [usize; 4],
-    vals: &[f64],
-    axes: &[usize],
-    lines: &[usize],
-    coeffs: &mut [f64],
-    ledger: &mut [u8],
-    scratch: &mut [f64],
-    answers: &mut [u8],
-) -> Answer
-    ensures { λ r. ⌜ RegularRan binary64 count dims (now (vals .entry)) (now (axes .entry)) (now (lines .entry)) (record { coefs = now (coeffs .entry); ledger = now (ledger .entry) }) (now (scratch .entry)) (now (answers .entry)) (answerNumber r) (record { coefs = now (coeffs .exit); ledger = now (ledger .exit) }) (now (scratch .exit)) (now (answers .exit)) ⌝ }
-{
-    if let Answer::Refused(refusal) = check_begin(
-        count,
-        dims,
-        vals.len(),
-        coeffs.len(),
-        ledger.len(),
-        scratch.len(),
-    ) {
-        return Answer::Refused(refusal);
-    }
-    if let Answer::Refused(refusal) = check_lists(axes.len(), lines.len(), answers.len()) {
-        return Answer::Refused(refusal);
-    }
-    start(vals, coeffs, ledger);
-    run_list(count, dims, axes, lines, coeffs, ledger, scratch, answers);
-    Answer::Accepted
-}
-
-// Begins a fit and makes a list of line calls, one after the other: call i solves line `lines[i]` of axis `axes[i]`, and its
-// answer goes into `answers[i]`, 0 where the line was solved. The list may have any order and any length, and a refused call
-// changes nothing; the fit is finished when every ledger byte is the axis count. Answers the first of these refusals, with
-// nothing written: those of `begin_regular`; then 2, the length of `lines` is not that of `axes`; 2, nor is that of `answers`.
-pub fn fit_regular_by_list(
-    shape: Shape,
-    vals: &[f64],
-    axes: &[usize],
-    lines: &[usize],
-    coeffs: &mut [f64],
-    ledger: &mut [u8],
-    scratch: &mut [f64],
-    answers: &mut [u8],
-) -> Answer
-    ensures { λ r. ⌜ RegularRan binary64 (shape .count) (shape .dims) (now (vals .entry)) (now (axes .entry)) (now (lines .entry)) (record { coefs = now (coeffs .entry); ledger = now (ledger .entry) }) (now (scratch .entry)) (now (answers .entry)) (answerNumber r) (record { coefs = now (coeffs .exit); ledger = now (ledger .exit) }) (now (scratch .exit)) (now (answers .exit)) ⌝ }
-{
-    let count = shape.count;
-    let dims = shape.dims;
-    fit_by_list(
-        count,
-        dims,
-        vals,
-        axes,
-        lines,
-        coeffs,
-        ledger,
-        scratch,
-        answers,
-    )
 }

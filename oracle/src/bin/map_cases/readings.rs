@@ -1,4 +1,4 @@
-// The readings of docs/DECISIONS.md, 45: a function for each of them, which stands above it.
+// The readings of docs/DECISIONS.md, 46: a function for each of them, which stands above it.
 use crate::exact::exactly;
 use crate::list::List;
 use crate::maps::{even, even_two, first_lines, uneven, with, with_line, with_line_before};

@@ -1,25 +1,22 @@
-use mathlib.Core.Path.{_≡_, sym, _∙_}
+use mathlib.Core.Path.{sym, _∙_}
 use native.Mathlib.Omega.{arith}
-use lib.ListN.{length}
 use borrow.Author.Needs.{needs}
 use Rattle.shape.specs.Sizes.{coeffStorageLen}
-use Rattle.shape.proofs.Accepted.{storage-is, told-accepted, told-refused, usable, usable-positive}
+use Rattle.shape.proofs.Accepted.{storage-is, told-accepted, told-refused, usable}
 use Rattle.shape.proofs.axes.coeff_storage_len.Statement.{statement}
 use Rattle.shape.proofs.axes.coeff_storage_len.Tie as tie
 
-span-requires : tie.Need-span-requires
-span-requires c κs =
+points-of-requires : tie.Need-points-of-requires
+points-of-requires c κs =
     let w = c .before .before in
     let s = w .before in
-    let four : length (s .args .dims) ≡ 4 = omega (arith, s .good) in
-    let u = usable (s .args .count) (s .args .dims) four (told-accepted (s .args .count) (s .args .dims) (c .enum-told .given .1) (w .check .ensures)) in
-    (omega arith, u .at-most-four, usable-positive (s .args .count) (s .args .dims) four u, u .few-points)
+    usable (s .args .count) (s .args .dims) (omega (arith, s .good)) (told-accepted (s .args .count) (s .args .dims) (c .enum-told .given .1) (w .check .ensures))
 
 returns : tie.Need-returns
 returns c =
     let w = c .before .before .before in
     let a = w .before .args in
-    c .span .ensures ∙ sym (storage-is (a .count) (a .dims) (told-accepted (a .count) (a .dims) (c .before .enum-told .given .1) (w .check .ensures)))
+    c .points-of .ensures ∙ sym (storage-is (a .count) (a .dims) (told-accepted (a .count) (a .dims) (c .before .enum-told .given .1) (w .check .ensures)))
 
 returns-2 : tie.Need-returns-2
 unfolding coeffStorageLen
@@ -30,4 +27,4 @@ returns-2 c =
 
 pub coeff-storage-len-spec : {M : Type 1} → statement M
 coeff-storage-len-spec =
-    tie.close (tie.spec (λ c κs. search needs) (λ c. search needs) span-requires (λ c. search needs) returns returns-2)
+    tie.close (tie.spec (λ c κs. search needs) (λ c. search needs) points-of-requires (λ c. search needs) returns returns-2)
