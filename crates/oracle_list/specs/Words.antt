@@ -19,6 +19,18 @@ unfoldable pub wordAt : List ℕ → ℕ → Pattern
 wordAt text i =
     cond (ltb i (length text / 17) && isGap (getD text (i * 17 + 16) 0)) (bitsIn (take 16 (drop (i * 17) text))) Unreadable
 
+-- the number of a word; 0 of one that cannot be read
+abbrev pub bitsOf : Pattern → ℕ
+bitsOf (Bits bits) = bits
+bitsOf Unreadable = 0
+
+abbrev pub numberAt : List ℕ → ℕ → ℕ
+numberAt text i = bitsOf (wordAt text i)
+
+-- word i can be read, and is this number
+abbrev pub IsNumber : List ℕ → ℕ → ℕ → Type 0
+IsNumber text i n = wordAt text i ≡ Bits n
+
 -- a word was read, and something made of it was put at a place of a list
 abbrev pub isRead : Pattern → Bool
 isRead (Bits bits) = true

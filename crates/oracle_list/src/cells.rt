@@ -1,7 +1,14 @@
 // Cells of the buffers: what they hold before a call, and how they compare after it.
 ghost use mathlib.Core.Path.{_≡_};
-ghost use lib.ListN.{length};
+ghost use mathlib.Core.Bool.{true};
+ghost use Prim.Native.Nat.{ℕ, _+_, _<_, _≤_};
+ghost use lib.ListN.{length, getD};
+ghost use lib.Ieee.{nan};
+ghost use Rattle.oracle_list.specs.Agree.{testOf, floatAt, CellAgrees, CellsAgree};
 ghost use Rattle.oracle_list.specs.Cells.{counted, sameCells, isNear, nearCells};
+use crate::words::number_at;
+use crate::words::word;
+use float_text::Pattern;
 
 // Cell i is set to `first` plus i steps.
 pub fn fill(first: f64, step: f64, cells: &mut [f64])
@@ -49,6 +56,12 @@ pub fn same_cells(a: &[f64], b: &[f64]) -> bool
     true
 }
 
+// What a cell has to pass with the float of its word: the same bits, any NaN for any NaN; or no further away than a tolerance.
+pub enum Test {
+    Same,
+    Near(f64),
+}
+
 // Whether x is no further than the tolerance from y. A NaN is near nothing.
 fn is_near(tolerance: f64, x: f64, y: f64) -> bool
     ensures { λ r. ⌜ r ≡ isNear tolerance x y ⌝ }
@@ -75,4 +88,65 @@ pub fn near_cells(tolerance: f64, a: &[f64], b: &[f64]) -> bool
         i += 1;
     }
     true
+}
+
+fn passes(test: Test, x: f64, y: f64) -> bool
+    ensures { λ r. ⌜ r ≡ testOf test x y ⌝ }
+{
+    match test {
+        Test::Same => float_text::same_bits(x, y),
+        Test::Near(tolerance) => is_near(tolerance, x, y),
+    }
+}
+
+// Whether a cell passes with word i.
+pub fn cell_agrees(test: Test, text: &[u8], i: usize, x: f64) -> bool
+    ensures { λ r. ⌜ (r ≡ true → CellAgrees (testOf test) (now (text .entry)) i x) ⌝ }
+{
+    let pattern = word(text, i);
+    match pattern {
+        Pattern::Bits(bits) => passes(test, x, float_text::float_of(bits)),
+        Pattern::Unreadable => false,
+    }
+}
+
+// Whether each cell passes with its word, of the words from word `first` on.
+pub fn cells_agree(test: Test, text: &[u8], first: usize, cells: &[f64]) -> bool
+    requires { ⌜ (first ≤ 65536) × (length (now cells) ≤ 65536) ⌝ }
+    ensures { λ r. ⌜ (r ≡ true → CellsAgree (testOf test) (now (text .entry)) first (now (cells .entry))) ⌝ }
+{
+    let mut i = 0;
+    while i < cells.len() {
+        if !cell_agrees(test, text, first + i, cells[i]) {
+            return false;
+        }
+        i += 1;
+    }
+    true
+}
+
+// Word i as a float.
+pub fn float_at(text: &[u8], i: usize) -> f64
+    ensures { λ r. ⌜ r ≡ floatAt (now (text .entry)) i ⌝ }
+{
+    float_text::float_of(number_at(text, i))
+}
+
+// The words from word `first` on, as many as there are cells.
+pub fn read_cells(text: &[u8], first: usize, cells: &mut [f64])
+    requires { ⌜ (first ≤ 65536) × (length (now cells) ≤ 65536) ⌝ }
+    ensures { λ _. ⌜ ((i : ℕ) → i < length (now (cells .exit)) → getD (now (cells .exit)) i nan ≡ floatAt (now (text .entry)) (first + i)) ⌝ }
+{
+    for i in 0..cells.len() {
+        cells[i] = float_at(text, first + i);
+    }
+}
+
+// Puts the cells of `from` into the front of `to`.
+pub fn copy_cells(from: &[f64], to: &mut [f64])
+    requires { ⌜ length (now from) ≤ length (now to) ⌝ }
+{
+    for i in 0..from.len() {
+        to[i] = from[i];
+    }
 }
