@@ -6,8 +6,6 @@ mod record;
 mod run;
 mod steps;
 
-use libc::STDOUT_FILENO;
-use oracle_run::Next;
 use oracle_run::Outcome;
 use oracle_run::Tally;
 
@@ -16,12 +14,12 @@ const MOST_RECORDS: usize = 1000000;
 
 // Reads the next record and replays it.
 fn replay_next(fd: i32, text: &mut [u8]) -> Outcome {
-    let next = oracle_run::next_record(fd, text);
-    match next {
-        Next::Record { kind, bytes } => record::replay(kind, &text[..bytes]),
-        Next::End => Outcome::End,
-        Next::Unreadable => Outcome::Unreadable,
+    let read = oracle_run::read_record(fd, text);
+    let n = read.bytes;
+    if n == 0 {
+        return oracle_run::stop(read.is_end);
     }
+    record::replay(&text[..n])
 }
 
 // Replays the records one after the other, up to the end of the list or the first that cannot be read.
@@ -40,14 +38,11 @@ fn replay_all(fd: i32, text: &mut [u8]) -> Tally {
 }
 
 fn main() {
-    let path = b"tasks.txt";
-    let fd = os::open_read(path);
+    let fd = oracle_run::open(b"tasks.txt");
     if fd < 0 {
-        os::fail(path);
-        io::write_all(STDOUT_FILENO, b"unreadable,0\n");
         return;
     }
-    let mut text = [0u8; 60928];
+    let mut text = [0u8; 60962];
     let tally = replay_all(fd, &mut text);
     libc::close(fd);
     tally.print(b"lists,", b"calls,", b"refused,");
