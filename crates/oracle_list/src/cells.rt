@@ -1,11 +1,11 @@
-// Cells of the buffers: what they hold before a call, and how they compare after it.
+// Cells of float buffers: what they hold before a call, and how they compare after it. Only this file makes a float of a word.
 ghost use mathlib.Core.Path.{_≡_};
 ghost use mathlib.Core.Bool.{true};
 ghost use Prim.Native.Nat.{ℕ, _+_, _<_, _≤_};
 ghost use lib.ListN.{length, getD};
 ghost use lib.Ieee.{nan};
 ghost use Rattle.oracle_list.specs.Agree.{testOf, floatAt, CellAgrees, CellsAgree};
-ghost use Rattle.oracle_list.specs.Cells.{counted, sameCells, isNear, nearCells};
+ghost use Rattle.oracle_list.specs.Cells.{counted, sameCells, isNear};
 use crate::words::number_at;
 use crate::words::word;
 use float_text::Pattern;
@@ -73,23 +73,6 @@ fn is_near(tolerance: f64, x: f64, y: f64) -> bool
     false
 }
 
-// Whether each cell is near the other list's.
-pub fn near_cells(tolerance: f64, a: &[f64], b: &[f64]) -> bool
-    ensures { λ r. ⌜ r ≡ nearCells tolerance (now (a .entry)) (now (b .entry)) ⌝ }
-{
-    if a.len() != b.len() {
-        return false;
-    }
-    let mut i = 0;
-    while i < a.len() {
-        if !is_near(tolerance, a[i], b[i]) {
-            return false;
-        }
-        i += 1;
-    }
-    true
-}
-
 fn passes(test: Test, x: f64, y: f64) -> bool
     ensures { λ r. ⌜ r ≡ testOf test x y ⌝ }
 {
@@ -115,7 +98,7 @@ pub fn cells_agree(test: Test, text: &[u8], first: usize, cells: &[f64]) -> bool
     requires { ⌜ (first ≤ 65536) × (length (now cells) ≤ 65536) ⌝ }
     ensures { λ r. ⌜ (r ≡ true → CellsAgree (testOf test) (now (text .entry)) first (now (cells .entry))) ⌝ }
 {
-    let mut i = 0;
+    let mut i: usize = 0;
     while i < cells.len() {
         if !cell_agrees(test, text, first + i, cells[i]) {
             return false;

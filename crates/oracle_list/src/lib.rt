@@ -1,13 +1,8 @@
-// What the programs that replay the oracle's lists share: the words of a list, cells of buffers, and the comparison of the two.
-mod against;
+// What the programs that replay the oracle's lists share: the words of a record, and bytes and cells of buffers against them.
 mod bytes;
 mod cells;
 mod words;
 
-pub use against::Compared;
-pub use against::both;
-pub use against::compare;
-pub use against::compare_near;
 pub use bytes::byte_of;
 pub use bytes::bytes_agree;
 pub use bytes::copy_bytes;
@@ -20,16 +15,10 @@ pub use cells::copy_cells;
 pub use cells::fill;
 pub use cells::float_at;
 pub use cells::is_filled;
-pub use cells::near_cells;
 pub use cells::read_cells;
 pub use cells::same_cells;
-pub use words::Head;
 pub use words::are_words;
 pub use words::every_fourth;
-pub use words::first_two;
 pub use words::is_number;
 pub use words::number_at;
-pub use words::read_floats;
-pub use words::read_numbers;
-pub use words::read_numbers_from;
 pub use words::size_at;

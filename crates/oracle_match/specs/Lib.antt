@@ -1,7 +1,4 @@
-pub mod Fits
-pub mod Fitted
 pub mod Batches
-pub mod Queries
+pub mod Fits
 pub mod Lists
-pub mod Ones
-pub mod Parts
+pub mod Queries

@@ -46,7 +46,14 @@ fn are_written_or(
 }
 
 // The output of a batch that wrote something, of n queries on `count` axes.
-fn written_agree(text: &[u8], first: usize, count: usize, n: usize, written: usize, cells: &[f64]) -> bool
+fn written_agree(
+    text: &[u8],
+    first: usize,
+    count: usize,
+    n: usize,
+    written: usize,
+    cells: &[f64],
+) -> bool
     requires { ⌜ (first ≤ 8192) × (count ≤ 4) × (n ≤ 1024) × (length (now cells) ≤ 8192) ⌝ }
     ensures { λ r. ⌜ (r ≡ true → BatchWritten (now (text .entry)) first count n written (now (cells .entry))) ⌝ }
 {
@@ -60,7 +67,14 @@ fn written_agree(text: &[u8], first: usize, count: usize, n: usize, written: usi
 }
 
 // What a batch left: word `at` is its answer, and the word after it how many queries' cells it wrote.
-fn output_agrees(text: &[u8], at: usize, first: usize, count: usize, n: usize, cells: &[f64]) -> bool
+fn output_agrees(
+    text: &[u8],
+    at: usize,
+    first: usize,
+    count: usize,
+    n: usize,
+    cells: &[f64],
+) -> bool
     requires { ⌜ (at ≤ 64) × (first ≤ 8192) × (count ≤ 4) × (n ≤ 1024) × (length (now cells) ≤ 8192) ⌝ }
     ensures { λ r. ⌜ (r ≡ true → BatchLeft (now (text .entry)) at first count n (now (cells .entry))) ⌝ }
 {
@@ -72,7 +86,15 @@ fn output_agrees(text: &[u8], at: usize, first: usize, count: usize, n: usize, c
 }
 
 // A batch: its answer, and its output, whose words start at word `first`.
-pub fn batch_agrees(text: &[u8], at: usize, answer: u64, first: usize, count: usize, n: usize, cells: &[f64]) -> bool
+pub fn batch_agrees(
+    text: &[u8],
+    at: usize,
+    answer: u64,
+    first: usize,
+    count: usize,
+    n: usize,
+    cells: &[f64],
+) -> bool
     requires { ⌜ (at ≤ 64) × (first ≤ 8192) × (count ≤ 4) × (n ≤ 1024) × (length (now cells) ≤ 8192) ⌝ }
     ensures { λ r. ⌜ (r ≡ true → IsNumber (now (text .entry)) at answer) ⌝ }
     ensures { λ r. ⌜ (r ≡ true → BatchLeft (now (text .entry)) at first count n (now (cells .entry))) ⌝ }

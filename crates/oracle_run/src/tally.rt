@@ -1,6 +1,5 @@
 // The counts of a run, and how they are printed.
 use libc::STDOUT_FILENO;
-use oracle_list::Compared;
 
 // What came of a record.
 pub enum Outcome {
@@ -42,21 +41,6 @@ pub fn open(path: &[u8]) -> i32 {
         print_line(b"unreadable,", 0);
     }
     fd
-}
-
-// What came of a record that was compared, with what it adds to each of the three counts.
-pub fn judge(first: u64, second: u64, third: u64, compared: Compared) -> Outcome {
-    let is_same = match compared {
-        Compared::Same => true,
-        Compared::Differs => false,
-        Compared::Unreadable => return Outcome::Unreadable,
-    };
-    Outcome::Replayed {
-        first: first,
-        second: second,
-        third: third,
-        is_same: is_same,
-    }
 }
 
 pub struct Tally {

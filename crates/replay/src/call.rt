@@ -35,7 +35,14 @@ fn is_right(text: &[u8], first: usize, c: usize, w: usize, grid: &[f64], samples
 {
     let mut coeffs = [0.0f64; 2048];
     let mut scratch = [0.0f64; 512];
-    is_fit_right(text, first, grid, samples, &mut coeffs[..c], &mut scratch[..w])
+    is_fit_right(
+        text,
+        first,
+        grid,
+        samples,
+        &mut coeffs[..c],
+        &mut scratch[..w],
+    )
 }
 
 // The same of floats that have been read: the knots before place g, then the samples.

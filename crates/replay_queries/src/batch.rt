@@ -122,11 +122,26 @@ fn is_map_right(
 fn are_floats_right(text: &[u8], g: usize, m: usize, count: usize, n: usize, floats: &[f64]) -> bool
     requires { ⌜ (g ≤ m) × (m ≤ length (now floats)) × (length (now floats) ≤ 3072) × (count ≤ 4) × (n ≤ 1024) ⌝ }
 {
-    is_map_right(text, 17 + floats.len(), count, n, &floats[..g], &floats[g..m], &floats[m..])
+    is_map_right(
+        text,
+        17 + floats.len(),
+        count,
+        n,
+        &floats[..g],
+        &floats[g..m],
+        &floats[m..],
+    )
 }
 
 // The same, in a buffer into which the floats are read.
-fn is_read_right(text: &[u8], g: usize, m: usize, count: usize, n: usize, floats: &mut [f64]) -> bool
+fn is_read_right(
+    text: &[u8],
+    g: usize,
+    m: usize,
+    count: usize,
+    n: usize,
+    floats: &mut [f64],
+) -> bool
     requires { ⌜ (g ≤ m) × (m ≤ length (now floats)) × (length (now floats) ≤ 3072) × (count ≤ 4) × (n ≤ 1024) ⌝ }
 {
     oracle_list::read_cells(text, 17, floats);

@@ -60,7 +60,17 @@ fn ask(
     let gradient = map::gradient(text, grid, coeffs, x);
     let answer = gradient.answer;
     let parts = gradient.parts;
-    oracle_match::query_agrees(text, first, n, i, x.len(), one.number, one.value, answer.number(), parts)
+    oracle_match::query_agrees(
+        text,
+        first,
+        n,
+        i,
+        x.len(),
+        one.number,
+        one.value,
+        answer.number(),
+        parts,
+    )
 }
 
 fn ask_at(

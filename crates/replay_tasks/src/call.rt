@@ -32,8 +32,15 @@ pub fn solve_line(
 ) -> u64 {
     let shape = shape_of(text);
     if is_rectilinear(text) {
-        return stepwise::solve_rectilinear_line(shape, grid, axis, line, coeffs, ledger, scratch)
-            .number();
+        return stepwise::solve_rectilinear_line(
+            shape,
+            grid,
+            axis,
+            line,
+            coeffs,
+            ledger,
+            scratch,
+        ).number();
     }
     stepwise::solve_regular_line(shape, axis, line, coeffs, ledger, scratch).number()
 }
@@ -49,8 +56,16 @@ fn fit_regular(
     told: &mut [u8],
 ) -> u64 {
     let shape = shape_of(text);
-    stepwise::fit_regular_by_list(shape, samples, axes, lines, coeffs, ledger, scratch, told)
-        .number()
+    stepwise::fit_regular_by_list(
+        shape,
+        samples,
+        axes,
+        lines,
+        coeffs,
+        ledger,
+        scratch,
+        told,
+    ).number()
 }
 
 fn fit_rectilinear(
@@ -75,8 +90,7 @@ fn fit_rectilinear(
         ledger,
         scratch,
         told,
-    )
-        .number()
+    ).number()
 }
 
 pub fn fit_by_list(

@@ -23,10 +23,11 @@ loop-again c =
     let x = c .before .before .before .before in
     let inv = x .before .loop .inv in
     let a = x .before .before .before .before .args in
-    let here = c .before .is-number .ensures (not-false _ (c .if1 .left)) in
-    (rw (inv .0) (next-place (a .first) (x .before .loop .i) (a .step)),
-    search needs,
-    Passed-step _ _ _ (inv .2) (x .loop-test .taken) (rw (← inv .0) (rw (← c .before .before .wide .ensures) here)))
+    let here = c .before .is-number .ensures (not-false _ (c .if1 .left)) in (
+      rw (inv .0) (next-place (a .first) (x .before .loop .i) (a .step)),
+      search needs,
+      Passed-step _ _ _ (inv .2) (x .loop-test .taken) (rw (← inv .0) (rw (← c .before .before .wide .ensures) here)),
+    )
 
 pub bytes-agree-spec : {M : Type 1} → statement M
 bytes-agree-spec =

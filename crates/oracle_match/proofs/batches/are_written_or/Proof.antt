@@ -20,9 +20,10 @@ loop-again : tie.Need-loop-again Inv μ
 loop-again c =
     let t = c .before .before .before in
     let inv = t .before .loop .inv in
-    let l = t .loop-test .taken in
-    (Counting-step _ _ _ _ _ (inv .0) l,
-    Passed-step _ _ _ (inv .1) l (rw (Counting-at _ _ _ _ _ (inv .0) l) (c .before .is-written-or .ensures (not-false _ (c .if1 .left)))))
+    let l = t .loop-test .taken in (
+      Counting-step _ _ _ _ _ (inv .0) l,
+      Passed-step _ _ _ (inv .1) l (rw (Counting-at _ _ _ _ _ (inv .0) l) (c .before .is-written-or .ensures (not-false _ (c .if1 .left)))),
+    )
 
 pub are-written-or-spec : {M : Type 1} → statement M
 are-written-or-spec =
