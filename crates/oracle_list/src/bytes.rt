@@ -1,19 +1,10 @@
 // Bytes of buffers: what they hold before a call, and how they compare after it.
 ghost use mathlib.Core.Path.{_≡_};
 ghost use mathlib.Core.Bool.{true};
-ghost use Prim.Native.Nat.{ℕ, _≤_, _<_};
-ghost use lib.ListN.{length, getD};
+ghost use Prim.Native.Nat.{_≤_};
+ghost use lib.ListN.{length};
 ghost use Rattle.oracle_list.specs.Agree.{BytesAgree};
 use crate::words::is_number;
-
-// Every byte is set to 170.
-pub fn fill_bytes(bytes: &mut [u8])
-    ensures { λ _. ⌜ ((i : ℕ) → i < length (now (bytes .exit)) → getD (now (bytes .exit)) i 0 ≡ 170) ⌝ }
-{
-    for i in 0..bytes.len() {
-        bytes[i] = 170;
-    }
-}
 
 // Whether two texts are equal, in their bytes and in their lengths.
 pub fn same_bytes(a: &[u8], b: &[u8]) -> bool
@@ -63,11 +54,28 @@ pub fn byte_of(number: u64) -> u8 {
     number as u8
 }
 
+// A buffer whose every byte is 170. Its contract has the length alone, so that no proof above sees the bytes.
+pub fn filled_bytes() -> [u8; 1024]
+    ensures { λ r. ⌜ 1024 ≡ length r ⌝ }
+{
+    [170; 1024]
+}
+
 // Puts the bytes of `from` into the front of `to`.
-pub fn copy_bytes(from: &[u8], to: &mut [u8])
+fn copy_bytes(from: &[u8], to: &mut [u8])
     requires { ⌜ length (now from) ≤ length (now to) ⌝ }
 {
     for i in 0..from.len() {
         to[i] = from[i];
     }
+}
+
+// What a buffer holds, and other bytes after it.
+pub fn copy_of_bytes(bytes: &[u8]) -> [u8; 1024]
+    requires { ⌜ length (now bytes) ≤ 1024 ⌝ }
+    ensures { λ r. ⌜ 1024 ≡ length r ⌝ }
+{
+    let mut copy = filled_bytes();
+    copy_bytes(bytes, &mut copy);
+    copy
 }

@@ -125,11 +125,37 @@ pub fn read_cells(text: &[u8], first: usize, cells: &mut [f64])
     }
 }
 
+// A buffer of zeros. Its contract has the length alone, so that no proof above sees the zeros.
+pub fn zeros() -> [f64; 3072]
+    ensures { λ r. ⌜ 3072 ≡ length r ⌝ }
+{
+    [0.0; 3072]
+}
+
+// A buffer that is filled.
+pub fn filled(first: f64, step: f64) -> [f64; 3072]
+    ensures { λ r. ⌜ 3072 ≡ length r ⌝ }
+{
+    let mut cells = zeros();
+    fill(first, step, &mut cells);
+    cells
+}
+
 // Puts the cells of `from` into the front of `to`.
-pub fn copy_cells(from: &[f64], to: &mut [f64])
+fn copy_cells(from: &[f64], to: &mut [f64])
     requires { ⌜ length (now from) ≤ length (now to) ⌝ }
 {
     for i in 0..from.len() {
         to[i] = from[i];
     }
+}
+
+// What a buffer holds, and zeros after it.
+pub fn copy_of(cells: &[f64]) -> [f64; 3072]
+    requires { ⌜ length (now cells) ≤ 3072 ⌝ }
+    ensures { λ r. ⌜ 3072 ≡ length r ⌝ }
+{
+    let mut copy = zeros();
+    copy_cells(cells, &mut copy);
+    copy
 }

@@ -1,6 +1,7 @@
 // The call under test, and what it leaves.
 ghost use Prim.Native.Nat.{_≤_};
 ghost use lib.ListN.{length};
+use oracle_list::filled;
 use oracle_run::shape_of;
 
 // The fit, on the shape of a record: kinds from 6 on are rectilinear. The number of its answer.
@@ -23,8 +24,6 @@ fn is_fit_right(
 ) -> bool
     requires { ⌜ (first ≤ 8192) × (length (now coeffs) ≤ 2048) × (length (now scratch) ≤ 2048) ⌝ }
 {
-    oracle_list::fill(0.5, 1.0, coeffs);
-    oracle_list::fill(-0.25, -1.0, scratch);
     let answer = fit(text, grid, samples, coeffs, scratch);
     oracle_match::fit_agrees(text, answer, first, coeffs, scratch)
 }
@@ -33,8 +32,8 @@ fn is_fit_right(
 fn is_right(text: &[u8], first: usize, c: usize, w: usize, grid: &[f64], samples: &[f64]) -> bool
     requires { ⌜ (first ≤ 8192) × (c ≤ 2048) × (w ≤ 512) ⌝ }
 {
-    let mut coeffs = [0.0f64; 2048];
-    let mut scratch = [0.0f64; 512];
+    let mut coeffs = filled(0.5, 1.0);
+    let mut scratch = filled(-0.25, -1.0);
     is_fit_right(
         text,
         first,
@@ -65,6 +64,6 @@ pub fn replay(text: &[u8], g: usize, s: usize, c: usize, w: usize) -> bool
     requires { ⌜ (g ≤ 512) × (s ≤ 2048) × (c ≤ 2048) × (w ≤ 512) ⌝ }
 {
     let end = g + s;
-    let mut floats = [0.0f64; 2560];
+    let mut floats = oracle_list::zeros();
     is_read_right(text, g, c, w, &mut floats[..end])
 }

@@ -4,6 +4,8 @@
 mod case;
 mod compare;
 
+ghost use mathlib.Core.Path.{_≡_};
+ghost use lib.ListN.{length};
 use case::replay_next;
 use oracle_run::Tally;
 
@@ -25,13 +27,25 @@ fn replay_all(fd: i32, text: &mut [u8]) -> Tally {
     tally
 }
 
+// A buffer for a case. Its contract has the length alone, so that no proof above sees the zeros.
+fn buffer() -> [u8; 138507]
+    ensures { λ r. ⌜ 138507 ≡ length r ⌝ }
+{
+    [0; 138507]
+}
+
+// Replays an open list, and prints what came of it.
+fn replay_list(fd: i32, text: &mut [u8]) {
+    let tally = replay_all(fd, text);
+    libc::close(fd);
+    tally.print(b"ends in T,", b"ends in M,", b"ends in X,");
+}
+
 fn main() {
     let fd = oracle_run::open(b"cases.txt");
     if fd < 0 {
         return;
     }
-    let mut text = [0u8; 138507];
-    let tally = replay_all(fd, &mut text);
-    libc::close(fd);
-    tally.print(b"ends in T,", b"ends in M,", b"ends in X,");
+    let mut text = buffer();
+    replay_list(fd, &mut text);
 }

@@ -34,7 +34,6 @@ fn is_run_right(
     requires { ⌜ (at ≤ 64) × (first ≤ 8192) × (count ≤ 4) × (n ≤ 1024) × (length (now out) ≤ 1024) ⌝ }
     ensures { λ r. ⌜ (r ≡ true → BatchLeft (now (text .entry)) at first count n (now (out .exit))) ⌝ }
 {
-    oracle_list::fill(0.5, 1.0, out);
     let answer = run(text, at, grid, coeffs, xs, out);
     batch_agrees(text, at, answer, first, count, n, out)
 }
@@ -57,7 +56,7 @@ fn is_batch_right(
     if m > 1024 {
         return false;
     }
-    let mut out = [0.0f64; 1024];
+    let mut out = oracle_list::filled(0.5, 1.0);
     is_run_right(text, at, first, count, n, grid, coeffs, xs, &mut out[..m])
 }
 
@@ -154,6 +153,6 @@ pub fn replay(text: &[u8], g: usize, c: usize, x: usize, count: usize, n: usize)
 {
     let m = g + c;
     let end = m + x;
-    let mut floats = [0.0f64; 3072];
+    let mut floats = oracle_list::zeros();
     is_read_right(text, g, m, count, n, &mut floats[..end])
 }

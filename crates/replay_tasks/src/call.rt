@@ -45,54 +45,6 @@ pub fn solve_line(
     stepwise::solve_regular_line(shape, axis, line, coeffs, ledger, scratch).number()
 }
 
-fn fit_regular(
-    text: &[u8],
-    samples: &[f64],
-    axes: &[usize],
-    lines: &[usize],
-    coeffs: &mut [f64],
-    ledger: &mut [u8],
-    scratch: &mut [f64],
-    told: &mut [u8],
-) -> u64 {
-    let shape = shape_of(text);
-    stepwise::fit_regular_by_list(
-        shape,
-        samples,
-        axes,
-        lines,
-        coeffs,
-        ledger,
-        scratch,
-        told,
-    ).number()
-}
-
-fn fit_rectilinear(
-    text: &[u8],
-    grid: &[f64],
-    samples: &[f64],
-    axes: &[usize],
-    lines: &[usize],
-    coeffs: &mut [f64],
-    ledger: &mut [u8],
-    scratch: &mut [f64],
-    told: &mut [u8],
-) -> u64 {
-    let shape = shape_of(text);
-    stepwise::fit_rectilinear_by_list(
-        shape,
-        grid,
-        samples,
-        axes,
-        lines,
-        coeffs,
-        ledger,
-        scratch,
-        told,
-    ).number()
-}
-
 pub fn fit_by_list(
     text: &[u8],
     grid: &[f64],
@@ -104,9 +56,10 @@ pub fn fit_by_list(
     scratch: &mut [f64],
     told: &mut [u8],
 ) -> u64 {
+    let shape = shape_of(text);
     if is_rectilinear(text) {
-        return fit_rectilinear(
-            text,
+        return stepwise::fit_rectilinear_by_list(
+            shape,
             grid,
             samples,
             axes,
@@ -115,7 +68,16 @@ pub fn fit_by_list(
             ledger,
             scratch,
             told,
-        );
+        ).number();
     }
-    fit_regular(text, samples, axes, lines, coeffs, ledger, scratch, told)
+    stepwise::fit_regular_by_list(
+        shape,
+        samples,
+        axes,
+        lines,
+        coeffs,
+        ledger,
+        scratch,
+        told,
+    ).number()
 }

@@ -6,20 +6,13 @@ ghost use Prim.Native.Nat.{_+_, _≤_};
 ghost use lib.ListN.{length};
 ghost use Rattle.oracle_match.specs.Lists.{ListLeft};
 use crate::call;
-use crate::steps::bytes_of;
-use crate::steps::cells_of;
 use crate::steps::steps;
+use oracle_list::filled;
+use oracle_list::filled_bytes;
 use oracle_list::number_at;
 use oracle_list::size_at;
 use oracle_match::is_kept;
 use oracle_match::list_agrees;
-
-// What the buffers hold before a run.
-fn spoil(coeffs: &mut [f64], ledger: &mut [u8], scratch: &mut [f64]) {
-    oracle_list::fill(0.5, 1.0, coeffs);
-    oracle_list::fill_bytes(ledger);
-    oracle_list::fill(-0.25, -1.0, scratch);
-}
 
 // A begin that is to be refused: whether it was, with the right number, and left all as it was.
 fn is_refused(
@@ -32,11 +25,10 @@ fn is_refused(
 ) -> bool
     requires { ⌜ (length (now coeffs) ≤ 1024) × (length (now ledger) ≤ 1024) ⌝ }
 {
-    spoil(coeffs, ledger, scratch);
     let c = coeffs.len();
     let l = ledger.len();
-    let kept = cells_of(coeffs);
-    let saved = bytes_of(ledger);
+    let kept = filled(0.5, 1.0);
+    let saved = filled_bytes();
     if call::begin(text, grid, samples, coeffs, ledger, scratch) != number_at(text, 12) {
         return false;
     }
@@ -57,9 +49,9 @@ fn is_refused_on(text: &[u8], grid: &[f64], samples: &[f64]) -> bool {
     if w > 1024 {
         return false;
     }
-    let mut coeffs = [0.0f64; 1024];
-    let mut ledger = [0u8; 1024];
-    let mut scratch = [0.0f64; 1024];
+    let mut coeffs = filled(0.5, 1.0);
+    let mut ledger = filled_bytes();
+    let mut scratch = filled(-0.25, -1.0);
     is_refused(
         text,
         grid,
@@ -90,7 +82,7 @@ pub fn replay_begin(text: &[u8], g: usize, s: usize) -> bool
     requires { ⌜ (g ≤ 1024) × (s ≤ 1024) ⌝ }
 {
     let end = g + s;
-    let mut floats = [0.0f64; 2048];
+    let mut floats = oracle_list::zeros();
     is_begin_refused_in(text, g, &mut floats[..end])
 }
 
@@ -108,7 +100,6 @@ fn run_lines(
 ) -> u64
     requires { ⌜ (first ≤ 8192) × (w ≤ length (now scratch)) × (length (now coeffs) ≤ 1024) × (length (now ledger) ≤ 1024) × (length (now told) ≤ 512) ⌝ }
 {
-    spoil(coeffs, ledger, scratch);
     let answer = call::begin(text, grid, samples, coeffs, ledger, &scratch[..w]);
     steps(text, first, grid, coeffs, ledger, scratch, told);
     answer
@@ -158,7 +149,6 @@ fn run_list(
 ) -> u64
     requires { ⌜ (first ≤ 8192) × (length (now told) ≤ 512) ⌝ }
 {
-    oracle_list::fill_bytes(told);
     let n = told.len();
     let axes = column(text, first);
     let lines = column(text, first + 1);
@@ -189,7 +179,6 @@ fn by_list(
     requires { ⌜ (first ≤ 8192) × (length (now coeffs) ≤ 1024) × (length (now ledger) ≤ 1024) × (length (now told) ≤ 512) ⌝ }
     ensures { λ r. ⌜ (r ≡ true → ListLeft (now (text .entry)) first (now (told .exit)) (now (coeffs .exit)) (now (ledger .exit))) ⌝ }
 {
-    spoil(coeffs, ledger, scratch);
     if run_list(text, first, grid, samples, coeffs, ledger, scratch, told) != 0 {
         return false;
     }
@@ -209,10 +198,10 @@ fn by_lines_on(
 ) -> bool
     requires { ⌜ (first ≤ 8192) × (n ≤ 512) × (c ≤ 1024) × (l ≤ 1024) × (w ≤ 1024) ⌝ }
 {
-    let mut coeffs = [0.0f64; 1024];
-    let mut ledger = [0u8; 1024];
-    let mut scratch = [0.0f64; 1024];
-    let mut told = [0u8; 512];
+    let mut coeffs = filled(0.5, 1.0);
+    let mut ledger = filled_bytes();
+    let mut scratch = filled(-0.25, -1.0);
+    let mut told = filled_bytes();
     by_lines(
         text,
         first,
@@ -239,10 +228,10 @@ fn by_list_on(
 ) -> bool
     requires { ⌜ (first ≤ 8192) × (n ≤ 512) × (c ≤ 1024) × (l ≤ 1024) × (w ≤ 1024) ⌝ }
 {
-    let mut coeffs = [0.0f64; 1024];
-    let mut ledger = [0u8; 1024];
-    let mut scratch = [0.0f64; 1024];
-    let mut told = [0u8; 512];
+    let mut coeffs = filled(0.5, 1.0);
+    let mut ledger = filled_bytes();
+    let mut scratch = filled(-0.25, -1.0);
+    let mut told = filled_bytes();
     by_list(
         text,
         first,
@@ -314,6 +303,6 @@ pub fn replay_list(text: &[u8], g: usize, s: usize, n: usize, c: usize, l: usize
     requires { ⌜ (g ≤ 1024) × (s ≤ 1024) × (n ≤ 512) × (c ≤ 1024) × (l ≤ 1024) ⌝ }
 {
     let end = g + s;
-    let mut floats = [0.0f64; 2048];
+    let mut floats = oracle_list::zeros();
     is_list_right_in(text, g, n, c, l, &mut floats[..end])
 }

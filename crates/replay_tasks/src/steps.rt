@@ -5,26 +5,30 @@ ghost use lib.ListN.{length};
 use crate::call;
 use oracle_list::size_at;
 
-// What a buffer holds, and zeros after it.
-pub fn cells_of(cells: &[f64]) -> [f64; 1024]
-    requires { ⌜ length (now cells) ≤ 1024 ⌝ }
-    ensures { λ r. ⌜ 1024 ≡ length r ⌝ }
-{
-    let mut kept = [0.0f64; 1024];
-    oracle_list::copy_cells(cells, &mut kept);
-    kept
+// One call, on scratch of its length: its answer as a byte, or 255 where it is refused and does not leave all as it was, with
+// coefficients and ledger as they are kept in `kept` and `saved`.
+fn step_from(
+    text: &[u8],
+    grid: &[f64],
+    axis: usize,
+    line: usize,
+    kept: &[f64],
+    saved: &[u8],
+    coeffs: &mut [f64],
+    ledger: &mut [u8],
+    scratch: &mut [f64],
+) -> u8 {
+    oracle_list::fill(-0.25, -1.0, scratch);
+    let answer = call::solve_line(text, grid, axis, line, coeffs, ledger, scratch);
+    if answer == 0 {
+        return 0;
+    }
+    if !oracle_match::is_kept(coeffs, kept, ledger, saved, scratch) {
+        return 255;
+    }
+    oracle_list::byte_of(answer)
 }
 
-pub fn bytes_of(bytes: &[u8]) -> [u8; 1024]
-    requires { ⌜ length (now bytes) ≤ 1024 ⌝ }
-    ensures { λ r. ⌜ 1024 ≡ length r ⌝ }
-{
-    let mut saved = [0u8; 1024];
-    oracle_list::copy_bytes(bytes, &mut saved);
-    saved
-}
-
-// One call, on scratch of its length: its answer as a byte, or 255 where it is refused and does not leave all as it was.
 fn step(
     text: &[u8],
     grid: &[f64],
@@ -38,17 +42,19 @@ fn step(
 {
     let c = coeffs.len();
     let l = ledger.len();
-    let kept = cells_of(coeffs);
-    let saved = bytes_of(ledger);
-    oracle_list::fill(-0.25, -1.0, scratch);
-    let answer = call::solve_line(text, grid, axis, line, coeffs, ledger, scratch);
-    if answer == 0 {
-        return 0;
-    }
-    if !oracle_match::is_kept(coeffs, &kept[..c], ledger, &saved[..l], scratch) {
-        return 255;
-    }
-    oracle_list::byte_of(answer)
+    let kept = oracle_list::copy_of(coeffs);
+    let saved = oracle_list::copy_of_bytes(ledger);
+    step_from(
+        text,
+        grid,
+        axis,
+        line,
+        &kept[..c],
+        &saved[..l],
+        coeffs,
+        ledger,
+        scratch,
+    )
 }
 
 // The task at word `at`: axis, line, length of the scratch that the call is lent, answer.

@@ -9,6 +9,8 @@ pub is-right-spec : {M : Type 1} → statement M
 is-right-spec =
     tie.close
     (tie.spec
+    (λ c κs. search needs)
+    (λ c κs. search needs)
     (λ c. search needs)
     (λ c. simp length-take (omega arith))
     (λ c. search needs)

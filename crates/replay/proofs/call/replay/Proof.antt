@@ -10,6 +10,7 @@ replay-spec =
     tie.close
     (tie.spec
     (λ c. search needs)
+    (λ c κs. search needs)
     (λ c. search needs)
     (λ c. simp length-take (omega arith))
     (λ c κs. simp length-take (search needs))

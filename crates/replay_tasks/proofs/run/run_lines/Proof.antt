@@ -9,7 +9,6 @@ pub run-lines-spec : {M : Type 1} → statement M
 run-lines-spec =
     tie.close
     (tie.spec
-    (λ c κs. search needs)
     (λ c. search needs)
     (λ c. simp length-take (omega arith))
     (λ c κs. search needs)
