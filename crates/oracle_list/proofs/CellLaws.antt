@@ -123,3 +123,31 @@ unfolding everyPair counted
 Filled-done first step cells x i h l =
     let z : length cells - i ≡ 0 = omega arith in
     sym (h .rest ∙ rw (drop-of-length-le cells l, z))
+
+-- ---- the cell that counts next
+
+-- x is the cell after the first i of n
+pub record Counting (first step : Float) (n : ℕ) (x : Float) (i : ℕ) : Type 0 where
+  pub rest : drop i (counted first step n) ≡ counted x step (n - i)
+
+pub Counting-start : (first step : Float) (n : ℕ) → Counting first step n first 0
+Counting-start first step n =
+    let q : n - 0 ≡ n = omega arith in
+    record { rest = rw q }
+
+module _ (first step : Float) (n : ℕ) (x : Float) (i : ℕ) (h : Counting first step n x i) (l : i < n) where
+  counting-parted : getD (counted first step n) i nan ∷ drop (suc i) (counted first step n) ≡ x ∷ counted (add binary64 x step) step (n - (i + 1))
+  unfolding counted
+  counting-parted =
+      let ahead : n - i ≡ suc (n - (i + 1)) = omega arith in
+      let inside : i < length (counted first step n) = rw length-counted l in
+      sym (drop-cons (counted first step n) i nan inside) ∙ h .rest ∙ rw ahead
+
+  pub Counting-at : getD (counted first step n) i nan ≡ x
+  Counting-at = let p = counting-parted in cc
+
+  pub Counting-step : Counting first step n (add binary64 x step) (i + 1)
+  Counting-step =
+      let p = counting-parted in
+      let after : drop (suc i) (counted first step n) ≡ counted (add binary64 x step) step (n - (i + 1)) = cc in
+      record { rest = ap (λ (k : ℕ). drop k (counted first step n)) (add-one i) ∙ after }

@@ -39,6 +39,3 @@ sameCells xs ys = everyPair sameBits xs ys
 -- x is at most the tolerance away from y
 unfoldable pub isNear : Float → Float → Float → Bool
 isNear tolerance x y = le (sub binary64 x y) tolerance && le (neg tolerance) (sub binary64 x y)
-
-abbrev pub nearCells : Float → List Float → List Float → Bool
-nearCells tolerance xs ys = everyPair (isNear tolerance) xs ys

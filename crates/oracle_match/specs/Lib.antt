@@ -1,3 +1,4 @@
+pub mod Batches
 pub mod Fits
-pub mod Ones
-pub mod Parts
+pub mod Lists
+pub mod Queries

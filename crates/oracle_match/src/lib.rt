@@ -1,12 +1,13 @@
-// What a replayed call left, against the words of an oracle list: a fit, single queries, the parts of a batch, a text.
+// What a replayed call answered and left, against its record: a fit, a batch, a single query, a list of line calls, a text.
+mod batches;
 mod fits;
-mod ones;
-mod parts;
+mod lists;
+mod queries;
 mod texts;
 
-pub use fits::compare_fit;
-pub use fits::is_untouched;
-pub use ones::compare_ones;
-pub use parts::compare_part;
-pub use parts::compare_parts;
-pub use texts::compare_text;
+pub use batches::batch_agrees;
+pub use fits::fit_agrees;
+pub use lists::is_kept;
+pub use lists::list_agrees;
+pub use queries::query_agrees;
+pub use texts::is_text;

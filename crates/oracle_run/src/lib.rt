@@ -1,10 +1,14 @@
 // What the programs that replay the oracle's lists share beside `oracle_list`: a list is read record by record, and what came
 // of the records is counted.
-mod next;
+mod record;
 mod tally;
 
-pub use next::Next;
-pub use next::next_record;
+pub use record::Read;
+pub use record::is_whole;
+pub use record::read_record;
+pub use record::shape_of;
 pub use tally::Outcome;
 pub use tally::Tally;
-pub use tally::judge;
+pub use tally::open;
+pub use tally::replayed;
+pub use tally::stop;

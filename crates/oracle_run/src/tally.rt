@@ -1,6 +1,5 @@
 // The counts of a run, and how they are printed.
 use libc::STDOUT_FILENO;
-use oracle_list::Compared;
 
 // What came of a record.
 pub enum Outcome {
@@ -16,19 +15,32 @@ pub enum Outcome {
     },
 }
 
-// What came of a record that was compared, with what it adds to each of the three counts.
-pub fn judge(first: u64, second: u64, third: u64, compared: Compared) -> Outcome {
-    let is_same = match compared {
-        Compared::Same => true,
-        Compared::Differs => false,
-        Compared::Unreadable => return Outcome::Unreadable,
-    };
+// What came of a record that was replayed: what it adds to each of the three counts, and whether all was as it expects.
+pub fn replayed(first: u64, second: u64, third: u64, is_same: bool) -> Outcome {
     Outcome::Replayed {
         first: first,
         second: second,
         third: third,
         is_same: is_same,
     }
+}
+
+// The end of the list, or a record that cannot be read.
+pub fn stop(is_end: bool) -> Outcome {
+    if is_end {
+        return Outcome::End;
+    }
+    Outcome::Unreadable
+}
+
+// Opens a list; a negative number, and a word on standard output, where that fails.
+pub fn open(path: &[u8]) -> i32 {
+    let fd = os::open_read(path);
+    if fd < 0 {
+        os::fail(path);
+        print_line(b"unreadable,", 0);
+    }
+    fd
 }
 
 pub struct Tally {

@@ -1,30 +1,28 @@
 // One case of the list: a line with four numbers and a name, then an input, then what the map program must print for it.
 ghost use Prim.Native.Nat.{_+_, _<_};
 ghost use lib.ListN.{length};
-use crate::compare::compare;
+use crate::compare::is_printed;
 use libc::STDOUT_FILENO;
-use oracle_list::Compared;
+use oracle_list::number_at;
 use oracle_run::Outcome;
+use oracle_run::replayed;
 
 // The counts of the program, by the kind of a case: the last line that is printed is a T, an M or an X.
-fn judge(kind: u64, compared: Compared) -> Outcome {
+fn judge(kind: u64, is_same: bool) -> Outcome {
     match kind {
-        12 => oracle_run::judge(1, 0, 0, compared),
-        13 => oracle_run::judge(0, 1, 0, compared),
-        14 => oracle_run::judge(0, 0, 1, compared),
+        12 => replayed(1, 0, 0, is_same),
+        13 => replayed(0, 1, 0, is_same),
+        14 => replayed(0, 0, 1, is_same),
         _ => Outcome::Unreadable,
     }
 }
 
 // Names a case that differs.
-fn tell(name: &[u8], compared: Compared) {
-    match compared {
-        Compared::Differs => {
-            io::write_all(STDOUT_FILENO, b"differs,");
-            io::write_all(STDOUT_FILENO, name);
-            io::write_all(STDOUT_FILENO, b"\n");
-        }
-        _ => {}
+fn tell(name: &[u8], is_same: bool) {
+    if !is_same {
+        io::write_all(STDOUT_FILENO, b"differs,");
+        io::write_all(STDOUT_FILENO, name);
+        io::write_all(STDOUT_FILENO, b"\n");
     }
 }
 
@@ -45,9 +43,9 @@ fn replay_parts(kind: u64, text: &[u8], a: usize, b: usize) -> Outcome
     }
     let input = a + 1;
     let expected = b + 1;
-    let compared = compare(&text[input..b], &text[expected..end]);
-    tell(&text[..a], compared);
-    judge(kind, compared)
+    let is_same = is_printed(&text[input..b], &text[expected..end]);
+    tell(&text[..a], is_same);
+    judge(kind, is_same)
 }
 
 // Reads the rest of a case whose numbers have been read: its kind, and how many bytes its three parts have.
@@ -90,9 +88,11 @@ pub fn replay_next(fd: i32, text: &mut [u8]) -> Outcome {
     if got < 68 {
         return Outcome::Unreadable;
     }
-    let mut numbers = [0u64; 4];
-    if !oracle_list::read_numbers(&head, &mut numbers) {
+    if !oracle_list::are_words(&head) {
         return Outcome::Unreadable;
     }
-    replay_rest(fd, numbers[0], numbers[1], numbers[2], numbers[3], text)
+    let kind = number_at(&head, 0);
+    let name = number_at(&head, 1);
+    let input = number_at(&head, 2);
+    replay_rest(fd, kind, name, input, number_at(&head, 3), text)
 }

@@ -1,37 +1,15 @@
 // What the map program prints for an input, against what a case expects.
 ghost use mathlib.Core.Path.{_≡_};
+ghost use mathlib.Core.Bool.{true};
 ghost use mathlib.Core.List.{_++_};
 ghost use lib.ListN.{length};
 ghost use Rattle.map_work.specs.Program.{program};
-ghost use Rattle.map_work.specs.Steps.{Buffers, Kept};
-use oracle_list::Compared;
-use oracle_match::compare_text;
+ghost use Rattle.map_work.specs.Steps.{Kept};
 
-// The work on an input, in the program's buffers.
-fn compare_work(
-    input: &[u8],
-    spare: &[u8],
-    expected: &[u8],
-    numbers: &mut [usize],
-    row: &mut [f64],
-    samples: &mut [f64],
-    coeffs: &mut [f64],
-    scratch: &mut [f64],
-    x: &mut [f64],
-    out: &mut [u8],
-) -> Compared
+// The work on an input, in fresh buffers of the lengths that the program has.
+fn is_printed_for(input: &[u8], spare: &[u8], expected: &[u8]) -> bool
     requires { ⌜ Kept (length (now input)) (length (now spare)) ⌝ }
-    requires { ⌜ Buffers (length (now numbers)) (length (now row)) (length (now samples)) (length (now coeffs)) (length (now scratch)) (length (now x)) (length (now out)) ⌝ }
-    ensures { λ r. ⌜ (r ≡ Compared.Same → program (now (input .entry) ++ now (spare .entry)) ≡ now (expected .entry)) ⌝ }
-{
-    let n = map_work::work_on(input, spare, numbers, row, samples, coeffs, scratch, x, out);
-    compare_text(out, n, expected)
-}
-
-// The same, in fresh buffers of the lengths that the program has.
-fn compare_kept(input: &[u8], spare: &[u8], expected: &[u8]) -> Compared
-    requires { ⌜ Kept (length (now input)) (length (now spare)) ⌝ }
-    ensures { λ r. ⌜ (r ≡ Compared.Same → program (now (input .entry) ++ now (spare .entry)) ≡ now (expected .entry)) ⌝ }
+    ensures { λ r. ⌜ (r ≡ true → program (now (input .entry) ++ now (spare .entry)) ≡ now (expected .entry)) ⌝ }
 {
     let mut numbers = [0usize; 5];
     let mut row = [0.0f64; 512];
@@ -40,10 +18,9 @@ fn compare_kept(input: &[u8], spare: &[u8], expected: &[u8]) -> Compared
     let mut scratch = [0.0f64; 1024];
     let mut x = [0.0f64; 4];
     let mut out = [0u8; 98440];
-    compare_work(
+    let n = map_work::work_on(
         input,
         spare,
-        expected,
         &mut numbers,
         &mut row,
         &mut samples,
@@ -51,16 +28,18 @@ fn compare_kept(input: &[u8], spare: &[u8], expected: &[u8]) -> Compared
         &mut scratch,
         &mut x,
         &mut out,
-    )
+    );
+    oracle_match::is_text(&out, n, expected)
 }
 
-// An input of any length: the program keeps the first 32,768 bytes of a longer one, and a further read gets some of the rest.
-pub fn compare(input: &[u8], expected: &[u8]) -> Compared
-    ensures { λ r. ⌜ (r ≡ Compared.Same → program (now (input .entry)) ≡ now (expected .entry)) ⌝ }
+// Whether the program prints what is expected, for an input of any length: it keeps the first 32,768 bytes of a longer one, and a
+// further read gets some of the rest.
+pub fn is_printed(input: &[u8], expected: &[u8]) -> bool
+    ensures { λ r. ⌜ (r ≡ true → program (now (input .entry)) ≡ now (expected .entry)) ⌝ }
 {
     let end = input.len();
     if end > 32768 {
-        return compare_kept(&input[..32768], &input[32768..end], expected);
+        return is_printed_for(&input[..32768], &input[32768..end], expected);
     }
-    compare_kept(input, &input[end..end], expected)
+    is_printed_for(input, &input[end..end], expected)
 }

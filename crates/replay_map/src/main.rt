@@ -4,8 +4,9 @@
 mod case;
 mod compare;
 
+ghost use mathlib.Core.Path.{_≡_};
+ghost use lib.ListN.{length};
 use case::replay_next;
-use libc::STDOUT_FILENO;
 use oracle_run::Tally;
 
 // A list with more cases than this is not read to its end, and so counts as unreadable.
@@ -26,16 +27,25 @@ fn replay_all(fd: i32, text: &mut [u8]) -> Tally {
     tally
 }
 
-fn main() {
-    let path = b"cases.txt";
-    let fd = os::open_read(path);
-    if fd < 0 {
-        os::fail(path);
-        io::write_all(STDOUT_FILENO, b"unreadable,0\n");
-        return;
-    }
-    let mut text = [0u8; 138507];
-    let tally = replay_all(fd, &mut text);
+// A buffer for a case. Its contract has the length alone, so that no proof above sees the zeros.
+fn buffer() -> [u8; 138507]
+    ensures { λ r. ⌜ 138507 ≡ length r ⌝ }
+{
+    [0; 138507]
+}
+
+// Replays an open list, and prints what came of it.
+fn replay_list(fd: i32, text: &mut [u8]) {
+    let tally = replay_all(fd, text);
     libc::close(fd);
     tally.print(b"ends in T,", b"ends in M,", b"ends in X,");
+}
+
+fn main() {
+    let fd = oracle_run::open(b"cases.txt");
+    if fd < 0 {
+        return;
+    }
+    let mut text = buffer();
+    replay_list(fd, &mut text);
 }

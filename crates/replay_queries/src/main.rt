@@ -2,12 +2,10 @@
 // what the list says, and prints how many there were and how many records differ. The list comes from the folder oracle/, whose
 // README describes it.
 mod batch;
-mod call;
+mod map;
 mod ones;
 mod record;
 
-use libc::STDOUT_FILENO;
-use oracle_run::Next;
 use oracle_run::Outcome;
 use oracle_run::Tally;
 
@@ -15,51 +13,22 @@ use oracle_run::Tally;
 const MOST_RECORDS: usize = 1000000;
 
 // Reads the next record and replays it.
-fn replay_next(
-    fd: i32,
-    text: &mut [u8],
-    floats: &mut [f64],
-    out: &mut [f64],
-    before: &mut [f64],
-    answers: &mut [f64],
-    values: &mut [f64],
-    spare: &mut [f64],
-) -> Outcome {
-    let next = oracle_run::next_record(fd, text);
-    match next {
-        Next::Record { kind, bytes } => {
-            record::replay(
-                kind,
-                &text[..bytes],
-                floats,
-                out,
-                before,
-                answers,
-                values,
-                spare,
-            )
-        }
-        Next::End => Outcome::End,
-        Next::Unreadable => Outcome::Unreadable,
+fn replay_next(fd: i32, text: &mut [u8]) -> Outcome {
+    let read = oracle_run::read_record(fd, text);
+    let n = read.bytes;
+    if n == 0 {
+        return oracle_run::stop(read.is_end);
     }
+    record::replay(&text[..n])
 }
 
 // Replays the records one after the other, up to the end of the list or the first that cannot be read.
-fn replay_all(
-    fd: i32,
-    text: &mut [u8],
-    floats: &mut [f64],
-    out: &mut [f64],
-    before: &mut [f64],
-    answers: &mut [f64],
-    values: &mut [f64],
-    spare: &mut [f64],
-) -> Tally {
+fn replay_all(fd: i32, text: &mut [u8]) -> Tally {
     let mut tally = Tally::new();
     let mut left = MOST_RECORDS;
     while left > 0 {
         left -= 1;
-        let outcome = replay_next(fd, text, floats, out, before, answers, values, spare);
+        let outcome = replay_next(fd, text);
         tally = tally.with(outcome);
         if !tally.is_going {
             return tally;
@@ -68,31 +37,18 @@ fn replay_all(
     tally
 }
 
-fn main() {
-    let path = b"queries.txt";
-    let fd = os::open_read(path);
-    if fd < 0 {
-        os::fail(path);
-        io::write_all(STDOUT_FILENO, b"unreadable,0\n");
-        return;
-    }
-    let mut text = [0u8; 60928];
-    let mut floats = [0.0f64; 3072];
-    let mut out = [0.0f64; 1024];
-    let mut before = [0.0f64; 1024];
-    let mut answers = [0.0f64; 1024];
-    let mut values = [0.0f64; 1024];
-    let mut spare = [0.0f64; 1024];
-    let tally = replay_all(
-        fd,
-        &mut text,
-        &mut floats,
-        &mut out,
-        &mut before,
-        &mut answers,
-        &mut values,
-        &mut spare,
-    );
+// Replays an open list, and prints what came of it.
+fn replay_list(fd: i32, text: &mut [u8]) {
+    let tally = replay_all(fd, text);
     libc::close(fd);
     tally.print(b"maps,", b"queries,", b"refused,");
+}
+
+fn main() {
+    let fd = oracle_run::open(b"queries.txt");
+    if fd < 0 {
+        return;
+    }
+    let mut text = io::large_buffer();
+    replay_list(fd, &mut text);
 }

@@ -6,8 +6,6 @@ mod record;
 mod run;
 mod steps;
 
-use libc::STDOUT_FILENO;
-use oracle_run::Next;
 use oracle_run::Outcome;
 use oracle_run::Tally;
 
@@ -16,12 +14,12 @@ const MOST_RECORDS: usize = 1000000;
 
 // Reads the next record and replays it.
 fn replay_next(fd: i32, text: &mut [u8]) -> Outcome {
-    let next = oracle_run::next_record(fd, text);
-    match next {
-        Next::Record { kind, bytes } => record::replay(kind, &text[..bytes]),
-        Next::End => Outcome::End,
-        Next::Unreadable => Outcome::Unreadable,
+    let read = oracle_run::read_record(fd, text);
+    let n = read.bytes;
+    if n == 0 {
+        return oracle_run::stop(read.is_end);
     }
+    record::replay(&text[..n])
 }
 
 // Replays the records one after the other, up to the end of the list or the first that cannot be read.
@@ -39,16 +37,18 @@ fn replay_all(fd: i32, text: &mut [u8]) -> Tally {
     tally
 }
 
-fn main() {
-    let path = b"tasks.txt";
-    let fd = os::open_read(path);
-    if fd < 0 {
-        os::fail(path);
-        io::write_all(STDOUT_FILENO, b"unreadable,0\n");
-        return;
-    }
-    let mut text = [0u8; 60928];
-    let tally = replay_all(fd, &mut text);
+// Replays an open list, and prints what came of it.
+fn replay_list(fd: i32, text: &mut [u8]) {
+    let tally = replay_all(fd, text);
     libc::close(fd);
     tally.print(b"lists,", b"calls,", b"refused,");
+}
+
+fn main() {
+    let fd = oracle_run::open(b"tasks.txt");
+    if fd < 0 {
+        return;
+    }
+    let mut text = io::large_buffer();
+    replay_list(fd, &mut text);
 }

@@ -1,286 +1,308 @@
 // The runs of a record: a begin that is refused, a list by the line call, and the same list by one call. Coefficients, ledger and
 // answers have the record's lengths.
 ghost use mathlib.Core.Path.{_≡_};
-ghost use Prim.Native.Nat.{_*_, _≤_};
+ghost use mathlib.Core.Bool.{true};
+ghost use Prim.Native.Nat.{_+_, _≤_};
 ghost use lib.ListN.{length};
-ghost use Rattle.oracle_tasks.specs.Tasks.{MatchList};
+ghost use Rattle.oracle_match.specs.Lists.{ListLeft};
 use crate::call;
 use crate::steps::steps;
-use oracle_list::Compared;
-use oracle_list::both;
-use oracle_tasks::compare_list;
-use oracle_tasks::is_kept;
+use oracle_list::filled;
+use oracle_list::filled_bytes;
+use oracle_list::number_at;
+use oracle_list::size_at;
+use oracle_match::is_kept;
+use oracle_match::list_agrees;
 
-// What the buffers hold before a run.
-fn spoil(coeffs: &mut [f64], ledger: &mut [u8], scratch: &mut [f64]) {
-    oracle_list::fill(0.5, 1.0, coeffs);
-    oracle_tasks::fill(ledger);
-    oracle_list::fill(-0.25, -1.0, scratch);
-}
-
-// A begin that is to be refused: whether it was, with the right number, and left all as it was, which is kept in `kept` and
-// `saved`.
-fn is_refused_kept(
-    numbers: &[u64],
-    grid: &[f64],
-    samples: &[f64],
-    coeffs: &mut [f64],
-    ledger: &mut [u8],
-    scratch: &mut [f64],
-    kept: &mut [f64],
-    saved: &mut [u64],
-) -> bool
-    requires { ⌜ length (now numbers) ≡ 13 ⌝ }
-    requires { ⌜ (length (now coeffs) ≡ length (now kept)) × (length (now saved) ≡ length (now ledger)) ⌝ }
-{
-    spoil(coeffs, ledger, scratch);
-    multibspline::copy(coeffs, kept);
-    oracle_tasks::keep(ledger, saved);
-    if call::begin(numbers, grid, samples, coeffs, ledger, scratch) != numbers[10] {
-        return false;
-    }
-    is_kept(coeffs, kept, ledger, saved, scratch)
-}
-
-pub fn is_refused(
-    numbers: &[u64],
+// A begin that is to be refused: whether it was, with the right number, and left all as it was.
+fn is_refused(
+    text: &[u8],
     grid: &[f64],
     samples: &[f64],
     coeffs: &mut [f64],
     ledger: &mut [u8],
     scratch: &mut [f64],
 ) -> bool
-    requires { ⌜ length (now numbers) ≡ 13 ⌝ }
+    requires { ⌜ (length (now coeffs) ≤ 1024) × (length (now ledger) ≤ 1024) ⌝ }
 {
     let c = coeffs.len();
     let l = ledger.len();
+    let kept = filled(0.5, 1.0);
+    let saved = filled_bytes();
+    if call::begin(text, grid, samples, coeffs, ledger, scratch) != number_at(text, 12) {
+        return false;
+    }
+    is_kept(coeffs, &kept[..c], ledger, &saved[..l], scratch)
+}
+
+// The same on fresh buffers.
+fn is_refused_on(text: &[u8], grid: &[f64], samples: &[f64]) -> bool {
+    let c = size_at(text, 9);
+    let l = size_at(text, 10);
+    let w = size_at(text, 11);
     if c > 1024 {
         return false;
     }
     if l > 1024 {
         return false;
     }
-    let mut kept = [0.0f64; 1024];
-    let mut saved = [0u64; 1024];
-    is_refused_kept(
-        numbers,
+    if w > 1024 {
+        return false;
+    }
+    let mut coeffs = filled(0.5, 1.0);
+    let mut ledger = filled_bytes();
+    let mut scratch = filled(-0.25, -1.0);
+    is_refused(
+        text,
         grid,
         samples,
-        coeffs,
-        ledger,
-        scratch,
-        &mut kept[..c],
-        &mut saved[..l],
+        &mut coeffs[..c],
+        &mut ledger[..l],
+        &mut scratch[..w],
     )
 }
 
-// Begin, on scratch of length w, and the tasks by the line call. Whether begin is accepted, and each task too, or leaves all as
-// it was.
-fn is_run(
-    numbers: &[u64],
+// The same of floats that have been read: the knots before place g, then the samples.
+fn is_begin_refused(text: &[u8], g: usize, floats: &[f64]) -> bool
+    requires { ⌜ g ≤ length (now floats) ⌝ }
+{
+    is_refused_on(text, &floats[..g], &floats[g..])
+}
+
+// The same, in a buffer into which the floats are read.
+fn is_begin_refused_in(text: &[u8], g: usize, floats: &mut [f64]) -> bool
+    requires { ⌜ (g ≤ length (now floats)) × (length (now floats) ≤ 2048) ⌝ }
+{
+    oracle_list::read_cells(text, 14, floats);
+    is_begin_refused(text, g, floats)
+}
+
+// A record whose begin is refused, with g knots and s samples: whether all is as it expects.
+pub fn replay_begin(text: &[u8], g: usize, s: usize) -> bool
+    requires { ⌜ (g ≤ 1024) × (s ≤ 1024) ⌝ }
+{
+    let end = g + s;
+    let mut floats = oracle_list::zeros();
+    is_begin_refused_in(text, g, &mut floats[..end])
+}
+
+// Begin, on scratch of length w, and the tasks, from word `first` on, by the line call. The number of begin's answer.
+fn run_lines(
+    text: &[u8],
+    first: usize,
+    w: usize,
     grid: &[f64],
     samples: &[f64],
-    tasks: &[u64],
+    coeffs: &mut [f64],
+    ledger: &mut [u8],
+    scratch: &mut [f64],
+    told: &mut [u8],
+) -> u64
+    requires { ⌜ (first ≤ 8192) × (w ≤ length (now scratch)) × (length (now coeffs) ≤ 1024) × (length (now ledger) ≤ 1024) × (length (now told) ≤ 512) ⌝ }
+{
+    let answer = call::begin(text, grid, samples, coeffs, ledger, &scratch[..w]);
+    steps(text, first, grid, coeffs, ledger, scratch, told);
+    answer
+}
+
+// The list by the line call: whether all is as the words from word `first` on say.
+fn by_lines(
+    text: &[u8],
+    first: usize,
     w: usize,
+    grid: &[f64],
+    samples: &[f64],
     coeffs: &mut [f64],
     ledger: &mut [u8],
     scratch: &mut [f64],
     told: &mut [u8],
 ) -> bool
-    requires { ⌜ (length (now numbers) ≡ 13) × (length (now tasks) ≡ length (now told) * 4) × (w ≤ length (now scratch)) ⌝ }
+    requires { ⌜ (first ≤ 8192) × (w ≤ length (now scratch)) × (length (now coeffs) ≤ 1024) × (length (now ledger) ≤ 1024) × (length (now told) ≤ 512) ⌝ }
+    ensures { λ r. ⌜ (r ≡ true → ListLeft (now (text .entry)) first (now (told .exit)) (now (coeffs .exit)) (now (ledger .exit))) ⌝ }
 {
-    spoil(coeffs, ledger, scratch);
-    oracle_tasks::fill(told);
-    if call::begin(numbers, grid, samples, coeffs, ledger, &scratch[..w]) != 0 {
+    if run_lines(text, first, w, grid, samples, coeffs, ledger, scratch, told) != 0 {
         return false;
     }
-    steps(numbers, grid, tasks, coeffs, ledger, scratch, told)
+    list_agrees(text, first, told, coeffs, ledger)
 }
 
-// The list by the line call, against the words from word `first` on.
-fn by_lines(
+// Every fourth word from word `first` on; zeros past the last.
+fn column(text: &[u8], first: usize) -> [usize; 512]
+    requires { ⌜ first ≤ 65536 ⌝ }
+    ensures { λ r. ⌜ 512 ≡ length r ⌝ }
+{
+    let mut words = [0usize; 512];
+    oracle_list::every_fourth(text, first, &mut words);
+    words
+}
+
+// The list by one call, on scratch of begin's length. The number of its answer.
+fn run_list(
     text: &[u8],
     first: usize,
-    numbers: &[u64],
     grid: &[f64],
     samples: &[f64],
-    tasks: &[u64],
-    w: usize,
     coeffs: &mut [f64],
     ledger: &mut [u8],
     scratch: &mut [f64],
     told: &mut [u8],
-) -> Compared
-    requires { ⌜ (length (now numbers) ≡ 13) × (length (now tasks) ≡ length (now told) * 4) × (w ≤ length (now scratch)) ⌝ }
-    ensures { λ r. ⌜ (r ≡ Compared.Same → MatchList (now (text .entry)) first (now (told .exit)) (now (coeffs .exit)) (now (ledger .exit))) ⌝ }
+) -> u64
+    requires { ⌜ (first ≤ 8192) × (length (now told) ≤ 512) ⌝ }
 {
-    if !is_run(
-        numbers,
+    let n = told.len();
+    let axes = column(text, first);
+    let lines = column(text, first + 1);
+    call::fit_by_list(
+        text,
         grid,
         samples,
-        tasks,
-        w,
+        &axes[..n],
+        &lines[..n],
         coeffs,
         ledger,
         scratch,
         told,
-    ) {
-        return Compared::Differs;
-    }
-    compare_list(text, first, told, coeffs, ledger)
+    )
 }
 
-// The list by one call, on scratch of begin's length, against the words from word `first` on.
+// Whether all is as the words from word `first` on say.
 fn by_list(
     text: &[u8],
     first: usize,
-    numbers: &[u64],
     grid: &[f64],
     samples: &[f64],
-    axes: &[usize],
-    lines: &[usize],
     coeffs: &mut [f64],
     ledger: &mut [u8],
     scratch: &mut [f64],
     told: &mut [u8],
-) -> Compared
-    requires { ⌜ length (now numbers) ≡ 13 ⌝ }
-    ensures { λ r. ⌜ (r ≡ Compared.Same → MatchList (now (text .entry)) first (now (told .exit)) (now (coeffs .exit)) (now (ledger .exit))) ⌝ }
+) -> bool
+    requires { ⌜ (first ≤ 8192) × (length (now coeffs) ≤ 1024) × (length (now ledger) ≤ 1024) × (length (now told) ≤ 512) ⌝ }
+    ensures { λ r. ⌜ (r ≡ true → ListLeft (now (text .entry)) first (now (told .exit)) (now (coeffs .exit)) (now (ledger .exit))) ⌝ }
 {
-    spoil(coeffs, ledger, scratch);
-    oracle_tasks::fill(told);
-    let answer = call::fit_by_list(
-        numbers,
-        grid,
-        samples,
-        axes,
-        lines,
-        coeffs,
-        ledger,
-        scratch,
-        told,
-    );
-    if answer != 0 {
-        return Compared::Differs;
+    if run_list(text, first, grid, samples, coeffs, ledger, scratch, told) != 0 {
+        return false;
     }
-    compare_list(text, first, told, coeffs, ledger)
+    list_agrees(text, first, told, coeffs, ledger)
 }
 
-// The axes and the lines of the tasks are taken out of them, and the list is run by one call.
-fn by_list_taken(
+// The list by the line call on fresh buffers: n answers, c coefficients, a ledger of l bytes.
+fn by_lines_on(
     text: &[u8],
     first: usize,
-    numbers: &[u64],
+    n: usize,
+    c: usize,
+    l: usize,
+    w: usize,
     grid: &[f64],
     samples: &[f64],
-    tasks: &[u64],
-    coeffs: &mut [f64],
-    ledger: &mut [u8],
-    scratch: &mut [f64],
-    told: &mut [u8],
-    axes: &mut [usize],
-    lines: &mut [usize],
-) -> Compared
-    requires { ⌜ (length (now numbers) ≡ 13) × (length (now tasks) ≡ length (now axes) * 4) × (length (now tasks) ≡ length (now lines) * 4) ⌝ }
-    ensures { λ r. ⌜ (r ≡ Compared.Same → MatchList (now (text .entry)) first (now (told .exit)) (now (coeffs .exit)) (now (ledger .exit))) ⌝ }
+) -> bool
+    requires { ⌜ (first ≤ 8192) × (n ≤ 512) × (c ≤ 1024) × (l ≤ 1024) × (w ≤ 1024) ⌝ }
 {
-    oracle_tasks::every_fourth(tasks, 0, axes);
-    oracle_tasks::every_fourth(tasks, 1, lines);
+    let mut coeffs = filled(0.5, 1.0);
+    let mut ledger = filled_bytes();
+    let mut scratch = filled(-0.25, -1.0);
+    let mut told = filled_bytes();
+    by_lines(
+        text,
+        first,
+        w,
+        grid,
+        samples,
+        &mut coeffs[..c],
+        &mut ledger[..l],
+        &mut scratch,
+        &mut told[..n],
+    )
+}
+
+// The list by one call on fresh buffers.
+fn by_list_on(
+    text: &[u8],
+    first: usize,
+    n: usize,
+    c: usize,
+    l: usize,
+    w: usize,
+    grid: &[f64],
+    samples: &[f64],
+) -> bool
+    requires { ⌜ (first ≤ 8192) × (n ≤ 512) × (c ≤ 1024) × (l ≤ 1024) × (w ≤ 1024) ⌝ }
+{
+    let mut coeffs = filled(0.5, 1.0);
+    let mut ledger = filled_bytes();
+    let mut scratch = filled(-0.25, -1.0);
+    let mut told = filled_bytes();
     by_list(
         text,
         first,
-        numbers,
         grid,
         samples,
-        axes,
-        lines,
-        coeffs,
-        ledger,
-        scratch,
-        told,
+        &mut coeffs[..c],
+        &mut ledger[..l],
+        &mut scratch[..w],
+        &mut told[..n],
     )
 }
 
-fn by_list_of(
-    text: &[u8],
-    first: usize,
-    numbers: &[u64],
-    grid: &[f64],
-    samples: &[f64],
-    tasks: &[u64],
-    coeffs: &mut [f64],
-    ledger: &mut [u8],
-    scratch: &mut [f64],
-    told: &mut [u8],
-) -> Compared
-    requires { ⌜ (length (now numbers) ≡ 13) × (length (now tasks) ≡ length (now told) * 4) ⌝ }
-    ensures { λ r. ⌜ (r ≡ Compared.Same → MatchList (now (text .entry)) first (now (told .exit)) (now (coeffs .exit)) (now (ledger .exit))) ⌝ }
+// Whether some call of the list is answered 4, as its scratch is too short.
+fn has_short(text: &[u8], first: usize, n: usize) -> bool
+    requires { ⌜ (first ≤ 8192) × (n ≤ 512) ⌝ }
 {
-    let n = told.len();
-    if n > 512 {
-        return Compared::Unreadable;
+    let mut i: usize = 0;
+    while i < n {
+        if number_at(text, first + i * 4 + 3) == 4 {
+            return true;
+        }
+        i += 1;
     }
-    let mut axes = [0usize; 512];
-    let mut lines = [0usize; 512];
-    by_list_taken(
-        text,
-        first,
-        numbers,
-        grid,
-        samples,
-        tasks,
-        coeffs,
-        ledger,
-        scratch,
-        told,
-        &mut axes[..n],
-        &mut lines[..n],
-    )
+    false
 }
 
 // Both ways; a list with a call whose scratch is too short only by the line call.
-pub fn both_ways(
+fn both_ways(
     text: &[u8],
     first: usize,
-    numbers: &[u64],
+    n: usize,
+    c: usize,
+    l: usize,
     grid: &[f64],
     samples: &[f64],
-    tasks: &[u64],
-    w: usize,
-    coeffs: &mut [f64],
-    ledger: &mut [u8],
-    scratch: &mut [f64],
-    told: &mut [u8],
-) -> Compared
-    requires { ⌜ (length (now numbers) ≡ 13) × (length (now tasks) ≡ length (now told) * 4) × (w ≤ length (now scratch)) ⌝ }
+) -> bool
+    requires { ⌜ (first ≤ 8192) × (n ≤ 512) × (c ≤ 1024) × (l ≤ 1024) ⌝ }
 {
-    let a = by_lines(
-        text,
-        first,
-        numbers,
-        grid,
-        samples,
-        tasks,
-        w,
-        coeffs,
-        ledger,
-        scratch,
-        told,
-    );
-    if oracle_tasks::has_short(tasks) {
-        return a;
+    let w = size_at(text, 11);
+    if w > 1024 {
+        return false;
     }
-    let b = by_list_of(
-        text,
-        first,
-        numbers,
-        grid,
-        samples,
-        tasks,
-        coeffs,
-        ledger,
-        &mut scratch[..w],
-        told,
-    );
-    both(a, b)
+    if !by_lines_on(text, first, n, c, l, w, grid, samples) {
+        return false;
+    }
+    if has_short(text, first, n) {
+        return true;
+    }
+    by_list_on(text, first, n, c, l, w, grid, samples)
+}
+
+// The same of floats that have been read: the knots before place g, then the samples.
+fn is_list_right(text: &[u8], g: usize, n: usize, c: usize, l: usize, floats: &[f64]) -> bool
+    requires { ⌜ (g ≤ length (now floats)) × (length (now floats) ≤ 2048) × (n ≤ 512) × (c ≤ 1024) × (l ≤ 1024) ⌝ }
+{
+    both_ways(text, 14 + floats.len(), n, c, l, &floats[..g], &floats[g..])
+}
+
+// The same, in a buffer into which the floats are read.
+fn is_list_right_in(text: &[u8], g: usize, n: usize, c: usize, l: usize, floats: &mut [f64]) -> bool
+    requires { ⌜ (g ≤ length (now floats)) × (length (now floats) ≤ 2048) × (n ≤ 512) × (c ≤ 1024) × (l ≤ 1024) ⌝ }
+{
+    oracle_list::read_cells(text, 14, floats);
+    is_list_right(text, g, n, c, l, floats)
+}
+
+// A record whose begin is accepted, with g knots, s samples and n tasks: whether all is as it expects.
+pub fn replay_list(text: &[u8], g: usize, s: usize, n: usize, c: usize, l: usize) -> bool
+    requires { ⌜ (g ≤ 1024) × (s ≤ 1024) × (n ≤ 512) × (c ≤ 1024) × (l ≤ 1024) ⌝ }
+{
+    let end = g + s;
+    let mut floats = oracle_list::zeros();
+    is_list_right_in(text, g, n, c, l, &mut floats[..end])
 }

@@ -1,128 +1,97 @@
 // A list by the line call, one task after the other.
 ghost use mathlib.Core.Path.{_≡_};
-ghost use Prim.Native.Nat.{_*_, _<_};
+ghost use Prim.Native.Nat.{_+_, _*_, _≤_};
 ghost use lib.ListN.{length};
 use crate::call;
-use oracle_tasks::is_kept;
+use oracle_list::size_at;
 
-// One call, on scratch of its length; its answer goes into byte i. Whether it is accepted, or leaves all as it was, which is
-// kept in `kept` and `saved`.
-fn step_kept(
-    numbers: &[u64],
+// One call, on scratch of its length: its answer as a byte, or 255 where it is refused and does not leave all as it was, with
+// coefficients and ledger as they are kept in `kept` and `saved`.
+fn step_from(
+    text: &[u8],
     grid: &[f64],
     axis: usize,
     line: usize,
-    i: usize,
+    kept: &[f64],
+    saved: &[u8],
     coeffs: &mut [f64],
     ledger: &mut [u8],
     scratch: &mut [f64],
-    told: &mut [u8],
-    kept: &mut [f64],
-    saved: &mut [u64],
-) -> bool
-    requires { ⌜ (length (now numbers) ≡ 13) × (i < length (now told)) ⌝ }
-    requires { ⌜ (length (now coeffs) ≡ length (now kept)) × (length (now saved) ≡ length (now ledger)) ⌝ }
-{
+) -> u8 {
     oracle_list::fill(-0.25, -1.0, scratch);
-    multibspline::copy(coeffs, kept);
-    oracle_tasks::keep(ledger, saved);
-    let answer = call::solve_line(numbers, grid, axis, line, coeffs, ledger, scratch);
-    told[i] = oracle_tasks::byte_of(answer);
+    let answer = call::solve_line(text, grid, axis, line, coeffs, ledger, scratch);
     if answer == 0 {
-        return true;
+        return 0;
     }
-    is_kept(coeffs, kept, ledger, saved, scratch)
+    if !oracle_match::is_kept(coeffs, kept, ledger, saved, scratch) {
+        return 255;
+    }
+    oracle_list::byte_of(answer)
 }
 
 fn step(
-    numbers: &[u64],
+    text: &[u8],
     grid: &[f64],
     axis: usize,
     line: usize,
-    i: usize,
     coeffs: &mut [f64],
     ledger: &mut [u8],
     scratch: &mut [f64],
-    told: &mut [u8],
-) -> bool
-    requires { ⌜ (length (now numbers) ≡ 13) × (i < length (now told)) ⌝ }
+) -> u8
+    requires { ⌜ (length (now coeffs) ≤ 1024) × (length (now ledger) ≤ 1024) ⌝ }
 {
     let c = coeffs.len();
     let l = ledger.len();
-    if c > 1024 {
-        return false;
-    }
-    if l > 1024 {
-        return false;
-    }
-    let mut kept = [0.0f64; 1024];
-    let mut saved = [0u64; 1024];
-    step_kept(
-        numbers,
+    let kept = oracle_list::copy_of(coeffs);
+    let saved = oracle_list::copy_of_bytes(ledger);
+    step_from(
+        text,
         grid,
         axis,
         line,
-        i,
+        &kept[..c],
+        &saved[..l],
         coeffs,
         ledger,
         scratch,
-        told,
-        &mut kept[..c],
-        &mut saved[..l],
     )
 }
 
-// Task i.
+// The task at word `at`: axis, line, length of the scratch that the call is lent, answer.
 fn step_at(
-    numbers: &[u64],
+    text: &[u8],
+    at: usize,
     grid: &[f64],
-    tasks: &[u64],
-    i: usize,
     coeffs: &mut [f64],
     ledger: &mut [u8],
     scratch: &mut [f64],
-    told: &mut [u8],
-) -> bool
-    requires { ⌜ (length (now numbers) ≡ 13) × (i < length (now told)) × (length (now tasks) ≡ length (now told) * 4) ⌝ }
+) -> u8
+    requires { ⌜ (at ≤ 65536) × (length (now coeffs) ≤ 1024) × (length (now ledger) ≤ 1024) ⌝ }
 {
-    let at = i * 4;
-    let axis = call::size(tasks[at]);
-    let line = call::size(tasks[at + 1]);
-    let w = call::size(tasks[at + 2]);
+    let axis = size_at(text, at);
+    let line = size_at(text, at + 1);
+    let w = size_at(text, at + 2);
     if w > scratch.len() {
-        return false;
+        return 255;
     }
-    step(
-        numbers,
-        grid,
-        axis,
-        line,
-        i,
-        coeffs,
-        ledger,
-        &mut scratch[..w],
-        told,
-    )
+    step(text, grid, axis, line, coeffs, ledger, &mut scratch[..w])
 }
 
-// Every task. Whether each is accepted, or leaves all as it was.
+// Every task; the words of the first start at word `first`.
 pub fn steps(
-    numbers: &[u64],
+    text: &[u8],
+    first: usize,
     grid: &[f64],
-    tasks: &[u64],
     coeffs: &mut [f64],
     ledger: &mut [u8],
     scratch: &mut [f64],
     told: &mut [u8],
-) -> bool
-    requires { ⌜ (length (now numbers) ≡ 13) × (length (now tasks) ≡ length (now told) * 4) ⌝ }
+)
+    requires { ⌜ (first ≤ 8192) × (length (now coeffs) ≤ 1024) × (length (now ledger) ≤ 1024) × (length (now told) ≤ 512) ⌝ }
 {
     let mut i: usize = 0;
     while i < told.len() {
-        if !step_at(numbers, grid, tasks, i, coeffs, ledger, scratch, told) {
-            return false;
-        }
+        told[i] = step_at(text, first + i * 4, grid, coeffs, ledger, scratch);
         i += 1;
     }
-    true
 }

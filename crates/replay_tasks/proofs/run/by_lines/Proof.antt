@@ -1,5 +1,5 @@
 -- `replay_tasks::run::by_lines` meets its contract. Assumes nothing.
-use Rattle.oracle_list.proofs.WordLaws.{not-differs}
+use Rattle.oracle_list.proofs.WordLaws.{not-matched}
 use borrow.Author.Needs.{needs}
 use Rattle.replay_tasks.proofs.run.by_lines.Statement.{statement}
 use Rattle.replay_tasks.proofs.run.by_lines.Tie as tie
@@ -13,7 +13,7 @@ by-lines-spec =
     (λ c. search needs)
     (λ c. search needs)
     (λ c. search needs)
-    (λ c. not-differs)
+    (λ c. not-matched)
     (λ c κs. search needs)
     (λ c. search needs)
     (λ c. search needs)

@@ -1,14 +1,15 @@
 -- `replay_tasks::steps::steps` is safe and ends. Assumes nothing.
-use Prim.Native.Nat.{_-_, _≤_}
 use mathlib.Core.Path.{_≡_}
-use lib.ListN.{length}
+use Prim.Native.Nat.{_-_, _≤_}
+use native.Mathlib.Omega.{arith}
+use lib.ListN.{length, length-set}
 use borrow.Author.Needs.{needs}
 use Rattle.replay_tasks.proofs.steps.steps.Statement.{statement}
 use Rattle.replay_tasks.proofs.steps.steps.Tie as tie
 
 -- the buffers keep their lengths
 abbrev Inv : tie.InvT-loop
-Inv numbers grid tasks coeffs₀ ledger₀ scratch₀ told₀ i₀ coeffs ledger scratch told i =
+Inv text first grid coeffs₀ ledger₀ scratch₀ told₀ i₀ coeffs ledger scratch told i =
     (length coeffs ≡ length coeffs₀)
     × (length ledger ≡ length ledger₀)
     × (length scratch ≡ length scratch₀)
@@ -16,7 +17,7 @@ Inv numbers grid tasks coeffs₀ ledger₀ scratch₀ told₀ i₀ coeffs ledger
     × (i ≤ length told₀)
 
 abbrev μ : tie.MeasureT-loop
-μ numbers grid tasks coeffs₀ ledger₀ scratch₀ told₀ i₀ coeffs ledger scratch told i = length told₀ - i
+μ text first grid coeffs₀ ledger₀ scratch₀ told₀ i₀ coeffs ledger scratch told i = length told₀ - i
 
 pub steps-spec : {M : Type 1} → statement M
 steps-spec =
@@ -25,15 +26,13 @@ steps-spec =
     Inv
     μ
     (λ c. search needs)
+    (λ c. search needs)
+    (λ c. search needs)
     (λ c κs. search needs)
     (λ c. search needs)
     (λ c. search needs)
     (λ c. search needs)
-    (λ c. search needs)
-    (λ c. search needs)
-    (λ c. search needs)
-    (λ c. search needs)
-    (λ c. search needs)
+    (λ c. (search needs, search needs, search needs, simp length-set (omega arith), search needs))
     (λ c. search needs)
     (λ c. search needs)
     (λ c. search needs)
