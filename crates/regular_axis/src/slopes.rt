@@ -37,7 +37,14 @@ pub fn put_slopes(
 {
     let mut k: usize = 0;
     while k < m {
-        slope_row(linear, step, spots[into + k], work[4 * (row + k)], to + k, work);
+        slope_row(
+            linear,
+            step,
+            spots[into + k],
+            work[4 * (row + k)],
+            to + k,
+            work,
+        );
         k += 1;
     }
 }

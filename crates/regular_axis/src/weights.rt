@@ -20,7 +20,14 @@ fn weigh_row(linear: bool, number: usize, j: usize, work: &mut [f64])
 }
 
 // The rows of m queries, from row number `row` on.
-pub fn put_weights(linear: bool, m: usize, into: usize, row: usize, spots: &[usize], work: &mut [f64])
+pub fn put_weights(
+    linear: bool,
+    m: usize,
+    into: usize,
+    row: usize,
+    spots: &[usize],
+    work: &mut [f64],
+)
     requires { ⌜ (into + m ≤ length (now spots)) × (4 * (row + m) ≤ length (now work)) ⌝ }
     ensures { λ _. ⌜ RowsPut (weightRow binary64 linear into row (now (spots .entry)) (now (work .entry))) row m (now (work .entry)) (now (work .exit)) ⌝ }
 {

@@ -39,9 +39,29 @@ pub fn values_block(
     let starts = grid.starts;
     let steps = grid.steps;
     zero_firsts(s.m, spots);
-    let good = place_axes(grid.count, &dims, &strides, &starts, &steps, xs, s, spots, work);
+    let good = place_axes(
+        grid.count,
+        &dims,
+        &strides,
+        &starts,
+        &steps,
+        xs,
+        s,
+        spots,
+        work,
+    );
     weigh_axes(grid.count, grid.linear, s.cap, good, spots, work);
-    put_values(grid.count, &strides, coeffs, spots, work, s.cap, s.from, good, out);
+    put_values(
+        grid.count,
+        &strides,
+        coeffs,
+        spots,
+        work,
+        s.cap,
+        s.from,
+        good,
+        out,
+    );
     good
 }
 

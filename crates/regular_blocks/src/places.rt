@@ -35,7 +35,16 @@ fn place_next(
         step: steps[a],
         stride: strides[a],
     };
-    put_places(p, xs, a * s.n + s.from, good, s.cap * (a + 1), s.cap * a, spots, work)
+    put_places(
+        p,
+        xs,
+        a * s.n + s.from,
+        good,
+        s.cap * (a + 1),
+        s.cap * a,
+        spots,
+        work,
+    )
 }
 
 // All axes, whatever the flag of the map, up to the first query that some axis has no place for: how many come before it. An axis looks at the queries that the

@@ -42,7 +42,16 @@ pub fn slope_axes(
 {
     let mut a: usize = 0;
     while a < count {
-        put_slopes(linear, steps[a], m, cap * (a + 1), cap * a, cap * (4 + a), spots, work);
+        put_slopes(
+            linear,
+            steps[a],
+            m,
+            cap * (a + 1),
+            cap * a,
+            cap * (4 + a),
+            spots,
+            work,
+        );
         a += 1;
     }
 }

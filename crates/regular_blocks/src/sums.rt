@@ -27,7 +27,17 @@ pub fn sum_slopes(
     ensures { λ _. ⌜ now (out .exit) ≡ written (λ k o. set o (s .from + k) (summed binary64 (now (coeffs .entry)) (now (strides .entry)) (weightsOf (drop (16 * s .cap) (now (rows .entry))) (s .cap) k) count (getD (now (spots .entry)) k 0))) good (now (out .entry)) ⌝ }
 {
     let behind = 16 * s.cap;
-    put_values(count, strides, coeffs, spots, &rows[behind..], s.cap, s.from, good, out);
+    put_values(
+        count,
+        strides,
+        coeffs,
+        spots,
+        &rows[behind..],
+        s.cap,
+        s.from,
+        good,
+        out,
+    );
 }
 
 // Over two axes or more: part j of entry i at j n + i.

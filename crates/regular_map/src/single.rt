@@ -40,7 +40,17 @@ pub fn value_at(grid: Grid, coeffs: &[f64], x: &[f64]) -> Valued
     };
     let mut spots = [0usize; 5];
     let mut work = [0.0f64; 16];
-    let good = place_axes(count, &dims, &strides, &starts, &steps, x, s, &mut spots, &mut work);
+    let good = place_axes(
+        count,
+        &dims,
+        &strides,
+        &starts,
+        &steps,
+        x,
+        s,
+        &mut spots,
+        &mut work,
+    );
     if good < 1 {
         return Valued::Refused(Refusal::Unrepresentable);
     }

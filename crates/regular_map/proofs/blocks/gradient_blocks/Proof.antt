@@ -26,13 +26,16 @@ gradients-block-requires c κs =
     let w = t .before .before .loop .inv in
     let s = t .before .before .before .before .before .before .before .before in (
       (s .pre .0 .0, s .pre .0 .1, omega (arith, w .0 .length-out, s .pre .1 .1)),
-      (record {
-        block = b .1;
-        batch = b .2;
-        coordinates = s .pre .1 .0;
-        in-spots = omega (arith, s .pre .0 .0 .shape .at-most-four, s .pre .1 .2, w .1 .0);
-        in-work = omega (arith, s .pre .0 .0 .shape .at-most-four, s .pre .1 .3, w .1 .1);
-      }, omega (arith, s .pre .0 .0 .shape .at-most-four, s .pre .1 .3, w .1 .1)),
+      (
+        record {
+          block = b .1;
+          batch = b .2;
+          coordinates = s .pre .1 .0;
+          in-spots = omega (arith, s .pre .0 .0 .shape .at-most-four, s .pre .1 .2, w .1 .0);
+          in-work = omega (arith, s .pre .0 .0 .shape .at-most-four, s .pre .1 .3, w .1 .1);
+        },
+        omega (arith, s .pre .0 .0 .shape .at-most-four, s .pre .1 .3, w .1 .1),
+      ),
     )
 
 returns : tie.Need-returns Inv μ
