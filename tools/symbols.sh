@@ -1,7 +1,7 @@
 #!/bin/sh
 # symbols.sh [ARCHIVE]: holds include/corvezan.h to the library for C (`rt staticlib capi` makes it). Fails unless
 #   - the archive defines just the functions that the header declares, and no other name that a program could clash with;
-#   - it has no data that can be written, and needs nothing from outside but the compiler's memory functions;
+#   - it has no data that can be written, and needs nothing from outside but memcpy and memset;
 #   - each declaration has the result and the parameters of the function's source (tools/declarations.py).
 set -eu
 cd "$(dirname "$0")/.."
@@ -12,7 +12,7 @@ declared=$(python3 tools/declarations.py --names)
 global=$(names TDBCRVWG)
 needed=$(names U)
 for name in $global; do needed=$(printf '%s\n' "$needed" | grep -vx "$name" || true); done
-needed=$(printf '%s\n' "$needed" | grep -vxE 'mem(cpy|move|set|cmp)|' || true)
+needed=$(printf '%s\n' "$needed" | grep -vxE 'mem(cpy|set)|' || true)
 written=$(names DdBbCcGgSs)
 
 bad=0
