@@ -4,7 +4,7 @@ use mathlib.Core.Path.{_≡_, refl, sym, ap, ap₂, _∙_}
 use mathlib.Core.Bool.{Bool, true, false, _||_}
 use mathlib.Core.Logic.{_⊎_, inl, inr}
 use mathlib.Core.List.{List}
-use Prim.Native.Nat.{ℕ, zero, suc, _+_, _*_, _≤_, _<_}
+use Prim.Native.Nat.{ℕ, zero, _+_, _*_, _≤_, _<_}
 use native.Mathlib.Nat.{eq-or-lt-of-le}
 use native.Mathlib.Omega.{arith}
 use native.Mathlib.Numerals.{add-one}
@@ -17,8 +17,7 @@ use Rattle.shape.specs.Shape.{size, stride}
 use Rattle.shape.specs.Usable.{Usable}
 use Rattle.shape.proofs.Below.{none-at, any-none, any-ext}
 use Rattle.interp_math.specs.Sum.{summed, gradientPart}
-use Rattle.evaluation.specs.Axes.{perAxis, zeros, query, rows, strides, firstOver, Ready, Reaches, RowsOn}
-use Rattle.evaluation.specs.Spline.{Spline}
+use Rattle.evaluation.specs.Axes.{perAxis, zeros, query, rows, strides, firstOver, Reaches, RowsOn}
 use Rattle.evaluation.specs.ByAxis.{ByAxis, refuses, firstAt, valueAt, partAt, splineOf}
 use Rattle.evaluation.specs.Batch.{written, badAt, valueStep, gradientStep}
 use Rattle.evaluation.specs.Block.{weightsOf, RowsTo, FirstsTo, Firsts, reach, Block}

@@ -12,7 +12,7 @@ use native.Mathlib.Numerals.{add-one}
 use lib.ListN.{length, getD, drop}
 use lib.Seq.{getD-drop}
 use lib.Ieee.{Float, nan}
-use Rattle.evaluation.specs.Block.{rowAt, withRow, RowsPut, AxesPut, Weighed}
+use Rattle.evaluation.specs.Block.{rowAt, withRow, RowsPut, AxesPut}
 use Rattle.evaluation.proofs.Blocks.{row-length, row-same, row-other}
 
 rows-start : {row : ℕ → List Float} {base : ℕ} {rows : List Float} → RowsPut row base 0 rows rows
@@ -74,10 +74,6 @@ module _ (row : ℕ → ℕ → List Float) (cap base m : ℕ) (old : List Float
 
   pub axes-done : {a count : ℕ} {new : List Float} → AxesPut row cap base m a old new → a ≤ count → count ≤ a → AxesPut row cap base m count old new
   axes-done {a} {count} w h g = let e : a ≡ count = omega arith in rw e at w
-
--- those from row 0 on
-pub axes-weighed : {row : ℕ → ℕ → List Float} {cap m a : ℕ} {old new : List Float} → AxesPut row cap 0 m a old new → Weighed row cap m a new
-axes-weighed {cap = cap} w = record { at = λ b k h l. let e : 0 + cap * b + k ≡ cap * b + k = omega arith in rw e at (w .each b k h l) }
 
 -- ---- a part of the rows, from row number r on
 

@@ -7,12 +7,11 @@ use lib.ListN.{length, getD}
 use lib.Seq.{getD-set-same}
 use lib.Ieee.{Float, nan}
 use Rattle.shape.specs.Cells.{put}
-use Rattle.multibspline.specs.Numbers.{f0}
 use Rattle.evaluation.specs.Axes.{zeros, parts, query}
 use Rattle.evaluation.specs.Spline.{Spline, Answered, GradientAnswered}
 use Rattle.evaluation.specs.Batch.{written, badAt, valueStep, gradientStep}
 use Rattle.evaluation.specs.Block.{Block}
-use Rattle.evaluation.proofs.Outcomes.{value-found, value-refused, gradient-found, gradient-refused}
+use Rattle.evaluation.proofs.Outcomes.{value-found, gradient-found, gradient-refused}
 
 -- the parts, written into zeros
 pub single-parts : (count : ℕ) (part : ℕ → Float) → count ≤ 4 → put (λ k. k * 1 + 0) part count zeros ≡ parts count part
@@ -29,10 +28,6 @@ module _ (s : Spline) (x : List Float) {out out′ : List Float} {r : ℕ} where
   single-value b some all =
       let e : r ≡ 1 = omega (arith, b .most) in
       value-found s _ (b .good 0 all) (ap (λ (o : List Float). getD o 0 nan) (rw e at (b .leaves)) ∙ getD-set-same out 0 _ nan some)
-
-  pub single-refused : Block (badAt s x 1) (valueStep s x 1) 0 1 out r out′ → r < 1 → Answered s (query (s .axes) x 1 0) 6 f0
-  unfolding badAt
-  single-refused b none = let e : r ≡ 0 = omega arith in value-refused s _ (rw e at (b .stops none))
 
   pub single-gradient : s .axes ≤ 4 → out ≡ zeros → Block (badAt s x 1) (gradientStep s x 1) 0 1 out r out′ → 1 ≤ r → GradientAnswered s (query (s .axes) x 1 0) 0 out′
   unfolding badAt gradientStep written

@@ -3,7 +3,7 @@ ghost use mathlib.Core.Path.{_≡_};
 ghost use Prim.Native.Nat.{_-_, _*_, _/_, _≤_, _<_};
 ghost use lib.ListN.{length, take};
 ghost use lib.Ieee.{binary64, nan};
-ghost use Rattle.shape.specs.Shape.{longest, size, firstCell};
+ghost use Rattle.shape.specs.Shape.{longest, size};
 ghost use Rattle.shape.specs.Checks.{firstRefusal};
 ghost use Rattle.shape.specs.Fit.{solveLine, solveLines, lineLeaves, solveAxis, axisScratch};
 ghost use Rattle.shape.specs.Usable.{Usable, LinesWithin};

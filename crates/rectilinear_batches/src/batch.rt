@@ -8,7 +8,6 @@ ghost use Rattle.shape.specs.Shape.{size};
 ghost use Rattle.evaluation.specs.Axes.{query, parts};
 ghost use Rattle.evaluation.specs.ByAxis.{valueAt, partAt};
 ghost use Rattle.evaluation.specs.Batch.{badAt, valueStep, gradientStep, Entries};
-ghost use Rattle.rectilinear_blocks.specs.Map.{RectilinearMap};
 ghost use Rattle.rectilinear_blocks.specs.Records.{ghosts};
 ghost use Rattle.rectilinear_blocks.specs.Eval.{rectilinearAxes, rectilinear};
 ghost use Rattle.rectilinear_blocks.specs.Sound.{Sound, Laid};

@@ -1,12 +1,11 @@
 -- A block of queries axis by axis: where its coordinates stand, what its places add to the first coefficients, and its rows. For
 -- every format. Assumes nothing.
 use mathlib.Core.Path.{_≡_, refl, sym, ap, _∙_}
-use mathlib.Core.Logic.{inl, inr}
 use mathlib.Core.List.{List, []}
 use Prim.Native.Nat.{ℕ, _+_, _*_, _≤_, _<_}
 use native.Mathlib.Omega.{arith}
 use lib.ListN.{length, getD, take}
-use lib.Ieee.{Float, Format, nan}
+use lib.Ieee.{Float, Format}
 use Rattle.shape.specs.Checks.{mostPoints}
 use Rattle.shape.specs.Shape.{stride}
 use Rattle.knots.specs.Joined.{knotsOf}

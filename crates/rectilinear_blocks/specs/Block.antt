@@ -1,6 +1,6 @@
 -- A block of queries, from query `start` of n on, axis by axis: what its buffers hold. Assumes nothing.
 use mathlib.Core.List.{List}
-use Prim.Native.Nat.{ℕ, _+_, _*_, _≤_, _<_}
+use Prim.Native.Nat.{ℕ, _+_, _*_, _≤_}
 use lib.ListN.{take}
 use lib.Ieee.{Float, Format}
 use Rattle.evaluation.specs.Axes.{query, firstOver}

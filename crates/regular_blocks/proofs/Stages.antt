@@ -17,10 +17,10 @@ use Rattle.regular_weights.specs.declared.place.Loc.{Loc}
 use Rattle.evaluation.specs.Axes.{query, Ready}
 use Rattle.evaluation.specs.Block.{rowAt, RowsPut, AxesPut, RowsTo}
 use Rattle.evaluation.proofs.Entries.{stride-at}
-use Rattle.evaluation.proofs.ByAxis.{Moved, firsts-start, firsts-small, firsts-next, firsts-done}
+use Rattle.evaluation.proofs.ByAxis.{Moved, firsts-start, firsts-small, firsts-next}
 use Rattle.evaluation.proofs.Rows.{axes-none, axes-next, axes-done, row-part, row-first}
 use Rattle.evaluation.proofs.Weighed.{block-coordinate, block-inside, block-room}
-use Rattle.regular_axis.specs.Axis.{satOf, Axis, Places, weightRow, slopeRow}
+use Rattle.regular_axis.specs.Axis.{Axis, Places, weightRow, slopeRow}
 use Rattle.regular_blocks.specs.Map.{RegularMap}
 use Rattle.regular_blocks.specs.Eval.{isUnrepresentable, locOn, weightsOn, slopesOn, regularAxes}
 use Rattle.regular_blocks.specs.Block.{Room, AxisRoom, Kept, PlacedTo, weightRows, slopeRows}

@@ -1,5 +1,4 @@
 // The weights and the slopes of a block of queries on a regular map, axis after axis, by the places that were found.
-ghost use mathlib.Core.Path.{_≡_};
 ghost use Prim.Native.Nat.{_+_, _*_, _≤_};
 ghost use lib.ListN.{length};
 ghost use lib.Ieee.{binary64};

@@ -10,8 +10,8 @@ use native.Mathlib.Omega.{arith}
 use lib.Dec.{eqb, ltb}
 use lib.ListN.{length, getD, take, drop, length-take}
 use lib.Seq.{length-take-le, getD-take, take-take}
-use borrow.Author.Tests.{ltb-false, lt-ltb, le-ltb, eqb-true, eqb-false, ne-eqb, eq-eqb}
-use Rattle.shape.specs.Shape.{product, longest, size, points, NotEmpty, stride, lines, first, firstCell}
+use borrow.Author.Tests.{ltb-false, lt-ltb, le-ltb, eqb-false, ne-eqb, eq-eqb}
+use Rattle.shape.specs.Shape.{product, longest, size, points, NotEmpty, stride, lines, first}
 use Rattle.shape.specs.Refusal.{refusalNumber, answerNumber}
 use Rattle.shape.specs.declared.answers.Refusal.{Refusal}
 use Rattle.shape.specs.declared.answers.Refusal.the-variants.{AxisCount, DimensionMismatch, TooManyPoints, ScratchTooSmall, NotIncreasing, Unrepresentable, NoSuchLine, AlreadySolved, NotDue}

@@ -2,7 +2,6 @@ use mathlib.Core.Path.{_≡_}
 use Prim.Native.Nat.{_+_, _*_, _-_, _≤_}
 use native.Mathlib.Nat.{mul-le-mul-left}
 use native.Mathlib.Omega.{arith}
-use denote.Ref.{now}
 use lib.Ieee.{binary64}
 use Rattle.regular_blocks.proofs.Stages.{Sloping, sloping-start, sloping-next, sloping-done}
 use Rattle.regular_blocks.proofs.rows.slope_axes.Statement.{statement}

@@ -1,7 +1,6 @@
 use Prim.Native.Nat.{_-_}
 use native.Mathlib.Nat.{mul-le-mul-left}
 use native.Mathlib.Omega.{arith}
-use denote.Ref.{now}
 use lib.Ieee.{binary64}
 use Rattle.regular_blocks.proofs.Stages.{Weighing, weighing-start, weighing-next, weighing-done}
 use Rattle.regular_blocks.proofs.rows.weigh_axes.Statement.{statement}
