@@ -1,7 +1,9 @@
 // The sums over the coefficients that count, for the queries of a block: values and gradients on either grid, by the rows of
 // weights and slopes that stand in lent buffers.
 mod gradients;
+mod sums;
 mod values;
 
-pub use gradients::put_gradients;
+pub use sums::sum_gradients;
+pub use sums::sum_slopes;
 pub use values::put_values;

@@ -5,12 +5,12 @@
 use mathlib.Core.Path.{_≡_, refl, ap, _∙_}
 use mathlib.Core.Logic.{inl, inr}
 use mathlib.Core.List.{List}
-use Prim.Native.Nat.{ℕ, suc, _+_, _*_, _≤_, _<_}
+use Prim.Native.Nat.{ℕ, suc, _+_, _*_, _-_, _≤_, _<_}
 use native.Mathlib.Nat.{eq-or-lt-of-le, mul-le-mul-left, mul-suc}
 use native.Mathlib.Omega.{arith}
 use native.Mathlib.Numerals.{add-one}
-use lib.ListN.{length, getD, drop}
-use lib.Seq.{getD-drop}
+use lib.ListN.{length, getD, take, drop, length-drop}
+use lib.Seq.{getD-drop, take-all}
 use lib.Ieee.{Float, nan}
 use Rattle.evaluation.specs.Block.{rowAt, withRow, RowsPut, AxesPut}
 use Rattle.evaluation.proofs.Blocks.{row-length, row-same, row-other}
@@ -87,3 +87,7 @@ row-part rows at r j e =
 pub row-first : (rows rows′ : List Float) (j : ℕ) → rowAt rows j ≡ rowAt rows′ j → getD rows (4 * j) nan ≡ getD rows′ (4 * j) nan
 unfolding rowAt
 row-first rows rows′ j e = ap (λ (r : List Float). getD r 0 nan) e
+
+-- the part from `at` on, as it is lent
+pub part-behind : (rows : List Float) (at : ℕ) → take (length rows - at) (drop at rows) ≡ drop at rows
+part-behind rows at = take-all (length rows - at) (drop at rows) (omega (arith, length-drop at rows))

@@ -4,11 +4,10 @@ use mathlib.Core.Path.{_≡_, refl, ap, _∙_}
 use mathlib.Core.Logic.{inl, inr}
 use mathlib.Core.Bool.{Bool}
 use mathlib.Core.List.{List}
-use Prim.Native.Nat.{ℕ, suc, _+_, _*_, _-_, _≤_, _<_}
+use Prim.Native.Nat.{ℕ, suc, _+_, _*_, _≤_, _<_}
 use native.Mathlib.Nat.{eq-or-lt-of-le, mul-le-mul-left, mul-add}
 use native.Mathlib.Omega.{arith}
-use lib.ListN.{length, getD, take, drop, length-drop}
-use lib.Seq.{take-all}
+use lib.ListN.{length, getD, take, drop}
 use lib.Ieee.{Float, nan, Format}
 use Rattle.shape.specs.Shape.{stride}
 use Rattle.shape.proofs.Accepted.{room, axis-small, points-are}
@@ -182,11 +181,6 @@ module _ (f : Format) (linear : Bool) (steps : List Float) (cap m count : ℕ) (
 -- what stands behind the rows of four axes stands behind those of the axes in use
 pub four-behind : (cap : ℕ) {count j : ℕ} → count ≤ 4 → cap * 4 ≤ j → 0 + cap * count ≤ j
 four-behind cap few h = omega (arith, mul-le-mul-left cap few)
-
--- ---- the part of the rows from `at` on
-
-pub part-behind : (rows : List Float) (at : ℕ) → take (length rows - at) (drop at rows) ≡ drop at rows
-part-behind rows at = take-all (length rows - at) (drop at rows) (omega (arith, length-drop at rows))
 
 -- ---- rows, by what is kept
 

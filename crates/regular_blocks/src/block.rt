@@ -14,9 +14,9 @@ use crate::grid::Grid;
 use crate::places::place_axes;
 use crate::rows::slope_axes;
 use crate::rows::weigh_axes;
-use crate::sums::sum_gradients;
-use crate::sums::sum_slopes;
 use block_sums::put_values;
+use block_sums::sum_gradients;
+use block_sums::sum_slopes;
 use evaluation::Span;
 use evaluation::zero_firsts;
 

@@ -4,7 +4,6 @@ mod block;
 mod grid;
 mod places;
 mod rows;
-mod sums;
 
 pub use block::gradients_block;
 pub use block::values_block;

@@ -1,9 +1,9 @@
 use Prim.Native.Nat.{_*_}
 use denote.Ref.{now}
 use borrow.Author.Needs.{needs}
-use Rattle.regular_blocks.proofs.Stages.{part-behind}
-use Rattle.regular_blocks.proofs.sums.sum_slopes.Statement.{statement}
-use Rattle.regular_blocks.proofs.sums.sum_slopes.Tie as tie
+use Rattle.evaluation.proofs.Rows.{part-behind}
+use Rattle.block_sums.proofs.sums.sum_slopes.Statement.{statement}
+use Rattle.block_sums.proofs.sums.sum_slopes.Tie as tie
 
 returns : tie.Need-returns
 returns c =

@@ -4,9 +4,9 @@ use native.Mathlib.Omega.{arith}
 use lib.ListN.{length-drop}
 use denote.Ref.{now}
 use borrow.Author.Needs.{needs}
-use Rattle.regular_blocks.proofs.Stages.{part-behind}
-use Rattle.regular_blocks.proofs.sums.sum_gradients.Statement.{statement}
-use Rattle.regular_blocks.proofs.sums.sum_gradients.Tie as tie
+use Rattle.evaluation.proofs.Rows.{part-behind}
+use Rattle.block_sums.proofs.sums.sum_gradients.Statement.{statement}
+use Rattle.block_sums.proofs.sums.sum_gradients.Tie as tie
 
 put-gradients-requires : tie.Need-put-gradients-requires
 put-gradients-requires c κs =

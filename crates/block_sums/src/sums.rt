@@ -7,8 +7,8 @@ ghost use Rattle.shape.specs.Cells.{put};
 ghost use Rattle.interp_math.specs.Sum.{summed, gradientPart};
 ghost use Rattle.evaluation.specs.Batch.{written};
 ghost use Rattle.evaluation.specs.Block.{weightsOf, Firsts, reach};
-use block_sums::put_gradients;
-use block_sums::put_values;
+use crate::gradients::put_gradients;
+use crate::values::put_values;
 use evaluation::Span;
 
 // Over one axis: the slopes take the place of the weights.
