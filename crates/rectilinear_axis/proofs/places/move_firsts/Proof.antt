@@ -16,33 +16,42 @@ abbrev μ : tie.MeasureT-loop
 
 -- the sum of this query, by cells that have not been written yet, and that it is small
 moved : (c : tie.After-struct-known Inv μ)
-    → let l = c .before .before .before .before in
-    let s = l .before .before .before in
-    getD (l .loop .spots) (l .loop .k) 0 + c .before .loc-of .result .origin * s .args .stride ≡ movedAt (s .args .n) (s .args .stride) (s .args .into) (now (s .args .spots)) (l .loop .k)
+    → let l = c .before .before .before .before .loop in
+    let a = c .before .before .before .before .before .before .args in
+    getD (l .spots) (l .k) 0 + c .before .loc-of .result .origin * a .stride ≡ movedAt (a .n) (a .stride) (a .into) (now (a .spots)) (l .k)
 unfolding movedAt
 moved c =
-    let t = c .before .before .before in
-    let l = t .before in
-    let s = l .before .before .before in
-    let w = l .loop .inv .so-far in
-    rw (w .after (l .loop .k) (omega arith), c .before .loc-of .ensures, w .after (s .args .into + l .loop .k) (omega (arith, s .pre .0 .1, t .loop-test .taken)))
+    let l = c .before .before .before .before .loop in
+    let s = c .before .before .before .before .before .before in
+    let w = l .inv .so-far in
+    rw (w .after (l .k) (omega arith), c .before .loc-of .ensures, w .after (s .args .into + l .k) (omega (arith, s .pre .0 .1, c .before .before .before .loop-test .taken)))
 
 small : (c : tie.After-struct-known Inv μ)
-    → let l = c .before .before .before .before in
-    getD (l .loop .spots) (l .loop .k) 0 + c .before .loc-of .result .origin * l .before .before .before .args .stride ≤ 33554432
-small c =
-    let t = c .before .before .before in
-    let s = t .before .before .before .before in
-    omega (arith, moved c, s .pre .1 (t .before .loop .k) (t .loop-test .taken))
+    → let l = c .before .before .before .before .loop in
+    getD (l .spots) (l .k) 0 + c .before .loc-of .result .origin * c .before .before .before .before .before .before .args .stride ≤ 33554432
+small c = omega (arith, moved c, c .before .before .before .before .before .before .pre .1 (c .before .before .before .before .loop .k) (c .before .before .before .loop-test .taken))
 
 loop-again : tie.Need-loop-again Inv μ
-loop-again c =
-    let t = c .before .before .before .before in
-    let l = t .before in
-    cells-next _ _ _ _ _ (l .loop .inv) (t .loop-test .taken) (omega (arith, l .before .before .before .pre .0)) (omega arith) (moved (c .before))
+loop-again c = cells-next _ _ _ _ _ (c .before .before .before .before .before .loop .inv) (c .before .before .before .before .loop-test .taken) (omega (arith, c .before .before .before .before .before .before .before .pre .0)) (omega arith) (moved (c .before))
 
 pub move-firsts-spec : {M : Type 1} → statement M
 move-firsts-spec =
     tie.close
-    (tie.spec Inv μ (λ c. cells-start _ _ _ _) (λ c. omega arith) (λ c. omega arith) (λ c κs. c .before .before .before .before .before .pre .0 .0) (λ c. omega (arith, small c)) (λ c. omega arith)
-    (λ c. omega arith) (λ c. omega (arith, small (c .before))) (λ c. omega arith) (λ c. omega arith) (λ c. omega arith) loop-again (λ c. c .before .loop .inv .same-length) (λ c. cells-done _ _ _ _ (c .before .loop .inv) (c .loop-test .left)))
+    (tie.spec
+    Inv
+    μ
+    (λ c. cells-start _ _ _ _)
+    (λ c. omega arith)
+    (λ c. omega arith)
+    (λ c. omega arith)
+    (λ c κs. c .before .before .before .before .pre .0 .0)
+    (λ c. omega (arith, small c))
+    (λ c. omega (arith, small c))
+    (λ c. omega arith)
+    (λ c. omega (arith, small (c .before)))
+    (λ c. omega arith)
+    (λ c. omega arith)
+    (λ c. omega arith)
+    loop-again
+    (λ c. c .before .loop .inv .same-length)
+    (λ c. cells-done _ _ _ _ (c .before .loop .inv) (c .loop-test .left)))

@@ -1,5 +1,5 @@
-use Prim.Native.Nat.{_-_}
 use mathlib.Core.Path.{refl}
+use Prim.Native.Nat.{_-_}
 use native.Mathlib.Omega.{arith}
 use Rattle.rectilinear_axis.specs.Axis.{countAt}
 use Rattle.rectilinear_axis.proofs.Cells.{CellsSoFar, cells-start, cells-next, cells-done}
@@ -14,13 +14,24 @@ abbrev μ : tie.MeasureT-loop
 
 loop-again : tie.Need-loop-again Inv μ
 unfolding countAt
-loop-again c =
-    let t = c .before .before in
-    let l = t .before in
-    cells-next _ _ _ _ _ (l .loop .inv) (t .loop-test .taken) (l .before .before .before .before .pre .2) refl (c .count-below .ensures .0)
+loop-again c = cells-next _ _ _ _ _ (c .before .before .before .loop .inv) (c .before .before .loop-test .taken) (c .before .before .before .before .before .before .before .pre .2) refl (c .count-below .ensures .0)
 
 pub put-counts-spec : {M : Type 1} → statement M
 put-counts-spec =
     tie.close
-    (tie.spec Inv μ (λ c. cells-start _ _ _ _) (λ c. omega arith) (λ c. omega arith) (λ c. omega arith) (λ c κs. c .before .before .before .before .before .before .pre .0) (λ c. omega arith) (λ c. omega arith)
-    (λ c. omega arith) (λ c. omega arith) loop-again (λ c. c .before .loop .inv .same-length) (λ c. cells-done _ _ _ _ (c .before .loop .inv) (c .loop-test .left)))
+    (tie.spec
+    Inv
+    μ
+    (λ c. cells-start _ _ _ _)
+    (λ c. omega arith)
+    (λ c. omega arith)
+    (λ c. omega arith)
+    (λ c κs. c .before .before .before .before .before .before .pre .0)
+    (λ c. omega arith)
+    (λ c. omega arith)
+    (λ c. omega arith)
+    (λ c. omega arith)
+    (λ c. omega arith)
+    loop-again
+    (λ c. c .before .loop .inv .same-length)
+    (λ c. cells-done _ _ _ _ (c .before .loop .inv) (c .loop-test .left)))

@@ -13,23 +13,10 @@ Inv knots ends xs at m into to spots work₀ k₀ work k = RowsSoFar (slopesAt b
 abbrev μ : tie.MeasureT-loop
 μ knots ends xs at m into to spots work₀ k₀ work k = m - k
 
-slopes-at-requires : tie.Need-slopes-at-requires Inv μ
-slopes-at-requires c κs =
-    let t = c .before .before in
-    let s = t .before .before .before .before .before .before in
-    (s .pre .0 .0, s .pre .1 .each (t .before .loop .k) (t .loop-test .taken))
-
-put-row-requires : tie.Need-put-row-requires Inv μ
-put-row-requires c κs =
-    let t = c .before .before .before .before in
-    rows-room _ _ _ _ (t .before .loop .inv) (t .loop-test .taken) (t .before .before .before .before .before .before .pre .0 .3)
-
 loop-again : tie.Need-loop-again Inv μ
 loop-again c =
-    let p = c .before .before in
-    let t = p .before .before .before .before .before in
-    let w = p .before .before .slopes-at in
-    rows-next _ _ _ _ (t .before .loop .inv) (t .loop-test .taken) (t .before .before .before .before .before .before .pre .0 .3) (omega (arith, w .ok)) (w .ensures) (p .put-row .ensures)
+    let w = c .before .before .before .before .slopes-at in
+    rows-next _ _ _ _ (c .before .before .before .before .before .before .before .before .loop .inv) (c .before .before .before .before .before .before .before .loop-test .taken) (c .before .before .before .before .before .before .before .before .before .before .before .before .before .pre .0 .3) (omega (arith, w .ok)) (w .ensures) (c .before .before .put-row .ensures)
 
 pub put-slopes-spec : {M : Type 1} → statement M
 put-slopes-spec =
@@ -43,9 +30,10 @@ put-slopes-spec =
     (λ c. omega arith)
     (λ c. omega arith)
     (λ c. omega arith)
-    slopes-at-requires
     (λ c. omega arith)
-    put-row-requires
+    (λ c κs. (c .before .before .before .before .before .before .before .before .pre .0 .0, c .before .before .before .before .before .before .before .before .pre .1 .each (c .before .before .before .loop .k) (c .before .before .loop-test .taken)))
+    (λ c. omega arith)
+    (λ c κs. rows-room _ _ _ _ (c .before .before .before .before .before .loop .inv) (c .before .before .before .before .loop-test .taken) (c .before .before .before .before .before .before .before .before .before .before .pre .0 .3))
     (λ c. omega arith)
     (λ c. omega arith)
     loop-again
