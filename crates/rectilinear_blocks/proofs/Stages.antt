@@ -6,24 +6,24 @@ use mathlib.Core.List.{List, []}
 use Prim.Native.Nat.{ℕ, suc, _+_, _*_, _≤_, _<_}
 use native.Mathlib.Nat.{mul-le-mul-left}
 use native.Mathlib.Omega.{arith}
-use lib.ListN.{length, getD, take}
+use lib.ListN.{length, getD, take, drop}
 use lib.Ieee.{Float, nan, Format}
 use Rattle.shape.specs.Checks.{mostPoints}
 use Rattle.shape.specs.Shape.{stride}
 use Rattle.evaluation.specs.Axes.{query, Ready}
-use Rattle.evaluation.specs.Block.{RowsPut}
+use Rattle.evaluation.specs.Block.{rowAt, RowsPut, AxesPut, RowsTo}
 use Rattle.evaluation.proofs.Entries.{stride-at}
 use Rattle.evaluation.proofs.ByAxis.{Moved, firsts-small}
 use Rattle.evaluation.proofs.Rows.{rows-as}
 use Rattle.evaluation.proofs.Stages as stages
-use Rattle.evaluation.proofs.Stages.{Placing}
+use Rattle.evaluation.proofs.Stages.{Placing, rows-are, rows-behind}
 use Rattle.evaluation.proofs.Weighed.{block-coordinate}
 use Rattle.rectilinear_axis.specs.Axis.{Places, Counted, placeWeights, placeSlopes, weightsAt, slopesAt}
 use Rattle.rectilinear_blocks.specs.Map.{RectilinearMap}
 use Rattle.rectilinear_blocks.specs.Eval.{knotsOn, locOn, weightsOn, slopesOn, rectilinearAxes}
 use Rattle.rectilinear_blocks.specs.Sound.{Gridded}
 use Rattle.rectilinear_blocks.specs.Block.{KeptIn, weightsFor, slopesFor}
-use Rattle.rectilinear_blocks.proofs.Places.{roomy}
+use Rattle.rectilinear_blocks.proofs.Room.{roomy}
 
 module _ (map : RectilinearMap) (grid xs : List Float) (n start : ℕ) (few : map .count ≤ 4) (a : ℕ) (h : a < map .count) where
   coordinate : (k : ℕ) → getD xs (a * n + start + k) nan ≡ getD (query (map .count) xs n (start + k)) a nan
@@ -79,3 +79,13 @@ module _ (f : Format) (map : RectilinearMap) (grid xs : List Float) (n start cap
       let four = r .shape .at-most-four in
       stages.placing-next (rectilinearAxes f map grid) xs n start m w h (places-move map grid xs n start four a h cap p f (stride-at a r h)) (kept-here map grid xs n start four a h cap p)
       (kept-still map grid xs n start four a h cap p (omega (arith, w .so-far .firsts .most))) e
+
+-- ---- rows of all axes
+
+module _ (f : Format) (map : RectilinearMap) (grid xs : List Float) (n start cap good : ℕ) {work work′ : List Float} where
+  pub weights-are : AxesPut (weightsFor f map grid xs n start) cap 0 good (map .count) work work′ → RowsTo (weightsOn f map grid) (map .count) xs n start cap (map .count) good work′
+  weights-are p = rows-are _ (weightsOn f map grid) (map .count) xs n start cap good (λ b k h g. refl) p
+
+  pub slopes-are : (work″ : List Float) (behind : ℕ) → behind ≡ 16 * cap → AxesPut (slopesFor f map grid xs n start) cap (cap * 4) good (map .count) work work′ → ((j : ℕ) → cap * 4 ≤ j → rowAt work″ j ≡ rowAt work′ j)
+      → RowsTo (slopesOn f map grid) (map .count) xs n start cap (map .count) good (drop behind work″)
+  slopes-are work″ behind same p stood = rows-behind _ (slopesOn f map grid) (map .count) xs n start cap good (λ b k h g. refl) work″ behind same p stood
