@@ -2,8 +2,8 @@ use Prim.Native.Nat.{_*_}
 use denote.Ref.{now}
 use borrow.Author.Needs.{needs}
 use Rattle.evaluation.proofs.Rows.{part-behind}
-use Rattle.block_sums.proofs.sums.sum_slopes.Statement.{statement}
-use Rattle.block_sums.proofs.sums.sum_slopes.Tie as tie
+use Rattle.block_sums.proofs.gradients.sum_slopes.Statement.{statement}
+use Rattle.block_sums.proofs.gradients.sum_slopes.Tie as tie
 
 returns : tie.Need-returns
 returns c =
