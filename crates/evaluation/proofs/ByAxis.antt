@@ -121,9 +121,6 @@ module _ (m : ByAxis) (xs : List Float) (n start : ℕ) where
           rw (add-one a, before) (or-true (m .noPlace (query (m .count) xs n (start + r)) a))
       go g (inr l) = rw (add-one a, p .stopped l)
 
-  pub firsts-done : {q a good : ℕ} {firsts : List ℕ} → FirstsTo m xs n start q a good firsts → a ≤ m .count → m .count ≤ a → FirstsTo m xs n start q (m .count) good firsts
-  firsts-done {a = a} w h g = let e : a ≡ m .count = omega arith in rw e at w
-
 -- ---- what the block answers, once all axes are done
 
 -- the rows of entry k, as a table

@@ -1,5 +1,5 @@
 -- The places of a block of coordinates on one axis: the counts first, then the first coefficients moved on. Assumes nothing.
-use mathlib.Core.Path.{_≡_, ap, _∙_}
+use mathlib.Core.Path.{_≡_, _∙_}
 use mathlib.Core.List.{List}
 use Prim.Native.Nat.{ℕ, _+_, _*_, _≤_, _<_}
 use native.Mathlib.Nat.{mul-le-mul-right}
@@ -7,7 +7,7 @@ use native.Mathlib.Omega.{arith}
 use lib.ListN.{length, getD}
 use lib.Ieee.{Float, nan}
 use Rattle.shape.specs.Checks.{mostPoints}
-use Rattle.knots.specs.Place.{locOf, getLoc}
+use Rattle.knots.specs.Place.{getLoc}
 use Rattle.knots.proofs.Places.{get-loc-within}
 use Rattle.rectilinear_axis.specs.Axis.{CellsPut, countAt, movedAt, Places}
 

@@ -2,7 +2,7 @@
 ghost use mathlib.Core.Path.{_≡_};
 ghost use mathlib.Core.Bool.{cond};
 ghost use mathlib.Core.List.{[], _∷_};
-ghost use Prim.Native.Nat.{ℕ, _<_};
+ghost use Prim.Native.Nat.{_<_};
 ghost use lib.Dec.{ltb};
 ghost use lib.ListN.{length, take};
 ghost use lib.Ieee.{binary64};
@@ -12,7 +12,6 @@ ghost use Rattle.knots.specs.Joined.{knotsOf, total};
 ghost use Rattle.rectilinear_weights.specs.Ghosts.{lowGhostCoeffs, highGhostCoeffs};
 ghost use Rattle.rectilinear_weights.specs.Records.{ghostNumbers};
 ghost use Rattle.rectilinear.specs.Fit.{RectilinearFitted};
-ghost use Rattle.rectilinear_blocks.specs.Map.{RectilinearMap};
 ghost use Rattle.rectilinear_blocks.specs.Records.{ghosts};
 ghost use Rattle.rectilinear_map.specs.Map.{noGhost, lowGhosts, highGhosts, made, blank};
 ghost use Rattle.rectilinear_map.specs.Records.{mapOf, BuiltAs, BuiltByFit};
