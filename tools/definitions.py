@@ -6,9 +6,10 @@ and from the theorems that docs/PROMISES.md links, follows each name to the defi
 from, and so on. Prints Markdown tables: the definitions reached from the contracts, those with the theorems besides, and those
 that neither reaches, which only inner functions or proofs need. With --names it prints each definition with its lines.
 
-The lines of a definition are its signature, its clauses and the comment right above it, not the blank ones; the head of a
-`module _ (..) where` counts once. Of a theorem the statement is followed, not the proof; its own lines do not count, and
-definitions of proofs/ that it mentions are only named.
+The lines of a definition are its signature and its clauses, without comments and blank lines, since a comment is read but need
+not be believed; the head of a `module _ (..) where` counts once. Of a theorem the statement is followed, not the proof; its own
+lines do not count, and definitions of proofs/ that it mentions are only named. The library is counted apart from the map program,
+which a buyer who links the library need not read.
 
 Approximations: scopes are told by regular expressions, so that a name that is bound somewhere in a clause is taken for bound
 in all of it; a record is reached by its name and not by its fields; types that the code declares (src/, seen in specs/ as
@@ -93,13 +94,6 @@ def end_of_head(lines, start):
     return start + 1
 
 
-def above(lines, start):
-    """The first line of the comment right above."""
-    while start > 0 and lines[start - 1].lstrip().startswith("--") and indent(lines[start - 1]) == indent(lines[start]):
-        start -= 1
-    return start
-
-
 def split_clauses(lines, depth, name, kind):
     """The signature, and each clause; a record and a data type are all signature."""
     starts = [i for i, line in enumerate(lines) if i and indent(line) == depth and line.split()[:1] == [name]]
@@ -110,18 +104,19 @@ def split_clauses(lines, depth, name, kind):
 
 def definition(lines, start, found, place, around):
     depth, kind, name = len(found[1]), found[2], found[3] or found[4]
-    end, first = end_of(lines, start, depth, name), above(lines, start)
+    end = end_of(lines, start, depth, name)
     own = [COMMENT.sub("", line) for line in lines[start:end]]
     head, clauses = split_clauses(own, depth, name, kind)
     head = re.split(r"^ *unfolding ", head, flags=re.M)[0]
-    written = sum(1 for line in lines[first:end] if line.strip())
+    written = sum(1 for line in lines[start:end] if is_text(line))
     return Definition(Key(*place, name), kind or "", start + 1, head, clauses, written, around), end
 
 
 def module(lines, start, place, around):
-    end, first = end_of_head(lines, start), above(lines, start)
+    end = end_of_head(lines, start)
     head = COMMENT.sub("", "\n".join(lines[start:end]))
-    return Definition(Key(*place, f"module at line {start + 1}"), "module", start + 1, head, [], end - first, around), end
+    written = sum(1 for line in lines[start:end] if is_text(line))
+    return Definition(Key(*place, f"module at line {start + 1}"), "module", start + 1, head, [], written, around), end
 
 
 def definitions_in(path):
@@ -290,6 +285,10 @@ def rows_by(part, keys, more):
         yield [group] + size({k for k in keys if part(k) == group}) + size({k for k in more if part(k) == group})
 
 
+def part_of(key):
+    return "the map program" if key.crate == "float_text" or key.crate.startswith("map_") else "the library"
+
+
 def path_of(key):
     return f"{key.crate}/{key.folder}/{key.file}.antt"
 
@@ -310,7 +309,8 @@ def by_file(keys):
 def print_reached(contracts, both, names):
     heads = ["definitions from contracts", "lines", "with theorems", "lines"]
     crates = list(rows_by(lambda key: key.crate, contracts, both))
-    house.table("Definitions to read, by crate", ["crate"] + heads, crates + [["all"] + size(contracts) + size(both)])
+    parts = list(rows_by(part_of, contracts, both))
+    house.table("Definitions to read, by crate", ["crate"] + heads, crates + parts + [["all"] + size(contracts) + size(both)])
     house.table("By file", ["file"] + heads, list(rows_by(path_of, contracts, both)))
     if names:
         house.table("From contracts", ["file", "definition", "lines"], listed(contracts))

@@ -12,6 +12,8 @@ pub mod table;
 pub struct Pair {
     pub library: Box<dyn FnMut()>,
     pub rust: Box<dyn FnMut()>,
+    // how many calls it is: a figure is what one of them takes
+    pub calls: usize,
 }
 
 impl Pair {
@@ -19,7 +21,11 @@ impl Pair {
     fn warm(mut library: impl FnMut() + 'static, mut rust: impl FnMut() + 'static) -> Pair {
         library();
         rust();
-        Pair { library: Box::new(library), rust: Box::new(rust) }
+        Pair { library: Box::new(library), rust: Box::new(rust), calls: 1 }
+    }
+
+    fn of(self, calls: usize) -> Pair {
+        Pair { calls, ..self }
     }
 }
 
@@ -29,19 +35,21 @@ pub enum Work {
     Fit,
     Values,
     Gradients,
+    Lines,
     Line,
     Value,
 }
 
 impl Work {
-    pub const ALL: [Work; 5] = [Work::Fit, Work::Values, Work::Gradients, Work::Line, Work::Value];
+    pub const ALL: [Work; 6] = [Work::Fit, Work::Values, Work::Gradients, Work::Lines, Work::Line, Work::Value];
 
     pub fn name(self) -> &'static str {
         match self {
             Work::Fit => "fit",
             Work::Values => "value, batch",
             Work::Gradients => "gradient, batch",
-            Work::Line => "line call",
+            Work::Lines => "line call",
+            Work::Line => "line call, put back",
             Work::Value => "single values",
         }
     }
@@ -61,6 +69,7 @@ impl Work {
         let map = map::Map::<N>::draw(dims, rectilinear);
         match self {
             Work::Fit => fitting::fit(map),
+            Work::Lines => fitting::lines(map),
             Work::Line => fitting::line(map),
             Work::Values => evaluation::values(map, queries),
             Work::Gradients => evaluation::gradients(map, queries),

@@ -36,7 +36,8 @@ fn medians(mut pair: Pair, rounds: usize) -> Figures {
             library.push(time(&mut pair.library, library_times));
         }
     }
-    Figures { library: median(library), rust: median(rust) }
+    let calls = pair.calls as f64;
+    Figures { library: median(library) / calls, rust: median(rust) / calls }
 }
 
 // How often the work fits into a round.

@@ -11,7 +11,7 @@ use lib.ListN.{length, take, replicate}
 use Rattle.shape.specs.Below.{anyBelow}
 use Rattle.shape.specs.Shape.{longest, size, points, stride, isLine, first}
 use Rattle.shape.specs.Cells.{line, writeLine}
-use Rattle.shape.specs.Checks.{Check, refuse, firstRefusal, inOrder, shapeChecks, lengthCheck, scratchCheck}
+use Rattle.shape.specs.Checks.{Check, refuse, firstRefusal, fittingChecks}
 use Rattle.shape.specs.Fit.{solveLine, lineScratch, along}
 
 -- ---- the due test, on whatever ledger the call is handed
@@ -62,35 +62,15 @@ stateOf coefs ledger = record { coefs = coefs; ledger = ledger }
 module _ (count : ℕ) (lens : List ℕ) (grid knots : List Check) where
   -- begin checks as the whole fit does, the ledger's length besides
   unfoldable pub beginChecks : ℕ → ℕ → ℕ → ℕ → List Check
-  beginChecks samples coefs ledger scratch =
-      inOrder
-      (record {
-        shape = shapeChecks count lens;
-        grid = grid;
-        coefs = lengthCheck (size (take count lens)) coefs;
-        ledger = lengthCheck (size (take count lens)) ledger;
-        knots = knots;
-        samples = lengthCheck (size (take count lens)) samples;
-        scratch = scratchCheck (take count lens) scratch;
-        line = [];
-      })
+  beginChecks samples coefs ledger scratch = fittingChecks count lens grid knots coefs (ledger ∷ []) (samples ∷ []) scratch []
 
   abbrev pub beginAnswer : ℕ → ℕ → ℕ → ℕ → ℕ
   beginAnswer samples coefs ledger scratch = firstRefusal (beginChecks samples coefs ledger scratch)
 
   unfoldable pub callChecks : {A : Type 0} → Call A → State A → List Check
   callChecks call state =
-      inOrder
-      (record {
-        shape = shapeChecks count lens;
-        grid = grid;
-        coefs = lengthCheck (size (take count lens)) (length (state .coefs));
-        ledger = lengthCheck (size (take count lens)) (length (state .ledger));
-        knots = knots;
-        samples = [];
-        scratch = scratchCheck (take count lens) (length (call .scratch));
-        line = dueChecks (take count lens) (call .axis) (call .line) (state .ledger);
-      })
+      fittingChecks count lens grid knots (length (state .coefs)) (length (state .ledger) ∷ []) [] (length (call .scratch))
+      (dueChecks (take count lens) (call .axis) (call .line) (state .ledger))
 
   abbrev pub callAnswer : {A : Type 0} → Call A → State A → ℕ
   callAnswer call state = firstRefusal (callChecks call state)

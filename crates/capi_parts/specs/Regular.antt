@@ -7,7 +7,7 @@ use Prim.Native.Nat.{ℕ, _*_}
 use lib.ListN.{length, take}
 use lib.Ieee.{Float, Format}
 use Rattle.shape.specs.Shape.{size}
-use Rattle.shape.specs.Checks.{Check, refuse, firstRefusal, inOrder, shapeChecks, lengthCheck, scratchCheck}
+use Rattle.shape.specs.Checks.{Check, refuse, firstRefusal, fittingChecks, shapeChecks, lengthCheck}
 use Rattle.shape.specs.Fit.{FitLeaves}
 use Rattle.evaluation.specs.Spline.{Spline}
 use Rattle.evaluation.specs.ByAxis.{splineOf}
@@ -46,18 +46,7 @@ regularSpline f dims grid linear coeffs = splineOf f (regularAxes f (regularMap 
 
 abbrev pub fitChecks : List ℕ → List Float → ℕ → ℕ → ℕ → List Check
 fitChecks dims grid samples coefs scratch =
-    let axes = take (length dims) (lensOf dims) in
-    inOrder
-    (record {
-      shape = shapeChecks (length dims) (lensOf dims);
-      grid = lengthCheck (2 * length dims) (length grid);
-      coefs = lengthCheck (size axes) coefs;
-      ledger = [];
-      knots = [];
-      samples = lengthCheck (size axes) samples;
-      scratch = scratchCheck axes scratch;
-      line = [];
-    })
+    fittingChecks (length dims) (lensOf dims) (lengthCheck (2 * length dims) (length grid)) [] coefs [] (samples ∷ []) scratch []
 
 -- the fit, where its checks pass; then the steps are tested
 abbrev pub gridFromValuesAnswer : List ℕ → List Float → ℕ → ℕ → ℕ → ℕ
@@ -67,11 +56,7 @@ gridFromValuesAnswer dims grid samples coefs scratch =
 pub record FromValues (f : Format) (dims : List ℕ) (grid samples coefs scratch : List Float) (answer : ℕ) (coefs′ scratch′ : List Float) : Type 0 where
   pub answers : answer ≡ gridFromValuesAnswer dims grid (length samples) (length coefs) (length scratch)
   pub fits :
-      FitLeaves
-      (firstRefusal (fitChecks dims grid (length samples) (length coefs) (length scratch)))
+      FitLeaves (firstRefusal (fitChecks dims grid (length samples) (length coefs) (length scratch)))
       (regularFit f (take (length dims) (lensOf dims)) samples)
       (regularScratch f (take (length dims) (lensOf dims)) samples scratch)
-      coefs
-      scratch
-      coefs′
-      scratch′
+      coefs scratch coefs′ scratch′

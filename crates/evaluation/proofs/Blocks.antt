@@ -1,22 +1,21 @@
 -- The rows of a block. Assumes nothing.
 use mathlib.Core.Path.{_≡_, refl, sym, ap, _∙_}
 use mathlib.Core.Logic.{_≢_}
-use mathlib.Core.List.{List, [], _∷_, _++_}
+use mathlib.Core.List.{List, []}
 use Prim.Native.Nat.{ℕ, zero, suc, _+_, _*_, _≤_, _<_}
 use native.Mathlib.Numerals.{add-one}
 use native.Mathlib.Omega.{arith}
-use lib.ListN.{length, getD, set, length-set, List·getD-append}
+use lib.ListN.{length, getD, set, length-set}
 use lib.Seq.{getD-set-same}
 use lib.Ieee.{Float, nan, Format}
 use Rattle.shape.specs.Cells.{put, from}
-use Rattle.shape.proofs.Cells.{length-put, from-in, put-other, put-ext}
+use Rattle.shape.proofs.Cells.{length-put, from-in, put-other}
 use Rattle.interp_math.specs.Sum.{summed, gradientPart}
 use Rattle.interp_math.proofs.Four.{four}
 use Rattle.interp_math.proofs.Sums.{summed-ext}
 use Rattle.evaluation.specs.Axes.{rows, RowsOn}
 use Rattle.evaluation.specs.Batch.{written}
-use Rattle.evaluation.specs.Block.{rowAt, withRow, weightsOf, Firsts}
-use Rattle.evaluation.proofs.Batches.{written-same}
+use Rattle.evaluation.specs.Block.{rowAt, withRow, weightsOf}
 
 -- ---- one row replaced
 
@@ -67,11 +66,6 @@ pub slope-sum : (f : Format) (coefs : List Float) (ss : List ℕ) (first count :
     → summed f coefs ss ds count first ≡ gradientPart f coefs ss (rows count weight) (rows count slope) count first 0
 slope-sum f coefs ss first count weight slope {ds} one d = let own = d .at 0 (omega arith) in rw one (slope-alone f coefs ss (rows 1 weight) (rows 1 slope) ds first (omega arith) own)
 
--- ---- the first coefficients
-
-pub firsts-less : {firsts : List ℕ} {m r c : ℕ} (r′ : ℕ) → r′ ≤ r → Firsts firsts m r c → Firsts firsts m r′ c
-firsts-less r′ h w = record { within = λ k l. omega (arith, w .within k l, h) }
-
 -- ---- the loop over the entries of a block
 
 pub record Writing (step : ℕ → List Float → List Float) (m : ℕ) (out₀ out : List Float) (k : ℕ) : Type 0 where
@@ -102,33 +96,3 @@ writing-set start v {m} {out₀} {out} {k} {x} w h e = writing-next w h (length-
 pub writing-put : (start n count : ℕ) (g : ℕ → ℕ → Float) {m : ℕ} {out₀ out out′ : List Float} {k : ℕ} → Writing (λ k o. put (λ j. j * n + (start + k)) (g k) count o) m out₀ out k → k < m
     → out′ ≡ put (λ j. j * n + (start + k)) (g k) count out → Writing (λ k o. put (λ j. j * n + (start + k)) (g k) count o) m out₀ out′ (k + 1)
 writing-put start n count g {m} {out₀} {out} {out′} {k} w h e = writing-next w h (rw e (length-put (λ j. j * n + (start + k)) (g k) count out)) e
-
--- ---- a sum looks at the strides and weights of the axes in use alone
-
--- the first four of a list
-abbrev pub fourOf : List ℕ → List ℕ
-fourOf xs = getD xs 0 0 ∷ getD xs 1 0 ∷ getD xs 2 0 ∷ getD xs 3 0 ∷ []
-
-four-at : (xs : List ℕ) (l : ℕ) → l < 4 → getD (fourOf xs) l 0 ≡ getD xs l 0
-four-at xs zero h = refl
-four-at xs (suc zero) h = refl
-four-at xs (suc (suc zero)) h = refl
-four-at xs (suc (suc (suc zero))) h = refl
-four-at xs (suc (suc (suc (suc l)))) h = absurd (omega (arith, h))
-
-module _ (f : Format) (coefs : List Float) (strides ss ts : List ℕ) (j : ℕ) (e : fourOf strides ≡ ss ++ ts) (few : j ≤ length ss) (most : j ≤ 4) where
-  sum-by : (ws ws′ : List (List Float)) (first : ℕ) → ((l : ℕ) → l < j → getD ws l [] ≡ getD ws′ l []) → summed f coefs ss ws j first ≡ summed f coefs strides ws′ j first
-  sum-by ws ws′ first same =
-      summed-ext f coefs ss strides ws ws′ j first
-      (λ l h. sym (List·getD-append ss ts 0 l (omega arith)) ∙ sym (ap (λ (xs : List ℕ). getD xs l 0) e) ∙ four-at strides l (omega arith)) same
-
-  pub values-by : (ws ws′ : ℕ → List (List Float)) (first : ℕ → ℕ) (start m : ℕ) (out : List Float) → ((k l : ℕ) → l < j → getD (ws k) l [] ≡ getD (ws′ k) l [])
-      → written (λ k o. set o (start + k) (summed f coefs ss (ws k) j (first k))) m out ≡ written (λ k o. set o (start + k) (summed f coefs strides (ws′ k) j (first k))) m out
-  values-by ws ws′ first start m out same = written-same _ _ m out (λ k h o. ap (set o (start + k)) (sum-by (ws k) (ws′ k) (first k) (same k)))
-
-  pub gradients-by : (ws ds : ℕ → List (List Float)) (first : ℕ → ℕ) (start n m : ℕ) (out : List Float)
-      → written (λ k o. put (λ i. i * n + (start + k)) (λ i. gradientPart f coefs ss (ws k) (ds k) j (first k) i) j o) m out
-      ≡ written (λ k o. put (λ i. i * n + (start + k)) (λ i. gradientPart f coefs strides (ws k) (ds k) j (first k) i) j o) m out
-  unfolding gradientPart
-  gradients-by ws ds first start n m out =
-      written-same _ _ m out (λ k h o. put-ext (λ i. i * n + (start + k)) _ _ j o (λ i q. sum-by _ _ (first k) (λ l g. refl)))

@@ -13,3 +13,5 @@ pub mod Weighed
 pub mod Singles
 pub mod InUse
 pub mod ByAxis
+pub mod Stages
+pub mod Same

@@ -54,26 +54,41 @@ module _ (row : ℕ → List Float) (base m : ℕ) (rows₀ : List Float) where
   pub rows-done : {rows : List Float} {k : ℕ} → RowsSoFar rows k → m ≤ k → RowsPut row base m rows₀ rows
   rows-done {rows} {k} w h = let e : k ≡ m = omega (arith, w .most) in rw e at (w .so-far)
 
+pub rows-as : {row row′ : ℕ → List Float} {base m : ℕ} {old new : List Float} → ((k : ℕ) → k < m → row k ≡ row′ k) → RowsPut row base m old new → RowsPut row′ base m old new
+rows-as e w = record { each = λ k l. w .each k l ∙ e k l; before = w .before; after = w .after }
+
 -- ---- axis after axis, each with room for `cap` rows
 
-module _ (row : ℕ → ℕ → List Float) (cap base m : ℕ) (old : List Float) where
-  pub axes-none : AxesPut row cap base m 0 old old
-  axes-none = record { each = λ b k h l. absurd (let q : ⊥ = omega arith in q); before = λ j h. refl; after = λ j h. refl }
+module _ (row : ℕ → ℕ → List Float) (cap base m count : ℕ) (rows₀ : List Float) where
+  -- the rows of a axes are written
+  pub record AxesSoFar (rows : List Float) (a : ℕ) : Type 0 where
+    pub most : a ≤ count
+    pub length-rows : length rows ≡ length rows₀
+    pub so-far : AxesPut row cap base m a rows₀ rows
+
+  pub axes-begin : AxesSoFar rows₀ 0
+  axes-begin =
+      record { most = omega arith; length-rows = refl; so-far = record { each = λ b k h l. absurd (let q : ⊥ = omega arith in q); before = λ j h. refl; after = λ j h. refl } }
 
   -- the rows of one axis more, from row number `at` on
-  pub axes-next : {a at : ℕ} {mid new : List Float} → m ≤ cap → at ≡ base + cap * a → AxesPut row cap base m a old mid → RowsPut (row a) at m mid new → AxesPut row cap base m (a + 1) old new
-  axes-next {a} {at} few e w p =
+  pub axes-next : {rows rows′ : List Float} {a at : ℕ} {own : ℕ → List Float} → AxesSoFar rows a → a < count → m ≤ cap → at ≡ base + cap * a → ((k : ℕ) → k < m → own k ≡ row a k) → RowsPut own at m rows rows′ → length rows′ ≡ length rows
+      → AxesSoFar rows′ (a + 1)
+  axes-next {a = a} w h few e same p len =
       record {
-        each = λ b k h l. elim (eq-or-lt-of-le (let q : b ≤ a = omega arith in q)) [
-          | inl q ↦ rw (q, ← e) (p .each k l)
-          | inr q ↦ let below : cap * suc b ≤ cap * a = mul-le-mul-left cap q in p .before (base + cap * b + k) (omega (arith, below)) ∙ w .each b k q l
-        ];
-        before = λ j h. p .before j (omega arith) ∙ w .before j h;
-        after = λ j h. let wide : cap * (a + 1) ≡ cap * a + cap = rw add-one (mul-suc cap a) in p .after j (omega (arith, wide)) ∙ w .after j (omega (arith, wide));
+        most = omega arith;
+        length-rows = len ∙ w .length-rows;
+        so-far = record {
+          each = λ b k g l. elim (eq-or-lt-of-le (let q : b ≤ a = omega arith in q)) [
+            | inl q ↦ rw (q, ← e) (p .each k l ∙ same k l)
+            | inr q ↦ let below : cap * suc b ≤ cap * a = mul-le-mul-left cap q in p .before (base + cap * b + k) (omega (arith, below)) ∙ w .so-far .each b k q l
+          ];
+          before = λ j g. p .before j (omega arith) ∙ w .so-far .before j g;
+          after = λ j g. let wide : cap * (a + 1) ≡ cap * a + cap = rw add-one (mul-suc cap a) in p .after j (omega (arith, wide)) ∙ w .so-far .after j (omega (arith, wide));
+        };
       }
 
-  pub axes-done : {a count : ℕ} {new : List Float} → AxesPut row cap base m a old new → a ≤ count → count ≤ a → AxesPut row cap base m count old new
-  axes-done {a} {count} w h g = let e : a ≡ count = omega arith in rw e at w
+  pub axes-done : {rows : List Float} {a : ℕ} → AxesSoFar rows a → count ≤ a → AxesPut row cap base m count rows₀ rows
+  axes-done {a = a} w h = let e : a ≡ count = omega (arith, w .most) in rw e at (w .so-far)
 
 -- ---- a part of the rows, from row number r on
 

@@ -1,15 +1,14 @@
--- A block of queries, axis after axis: coordinates, rows, and first coefficients before any axis. Assumes nothing.
+-- An axis of a block of queries: its coordinates, room for its rows, and first coefficients before any axis. Assumes nothing.
 use mathlib.Core.Path.{_≡_, sym, _∙_}
 use mathlib.Core.Logic.{inl, inr}
 use mathlib.Core.List.{List}
-use Prim.Native.Nat.{ℕ, suc, _+_, _*_, _≤_, _<_}
+use Prim.Native.Nat.{ℕ, _+_, _*_, _≤_, _<_}
 use native.Mathlib.Nat.{eq-or-lt-of-le, mul-le-mul-left, mul-le-mul-right}
 use native.Mathlib.Omega.{arith}
 use lib.ListN.{length, getD, set}
 use lib.Seq.{getD-set-same, getD-set-other}
 use lib.Ieee.{Float, nan}
 use Rattle.evaluation.specs.Axes.{query}
-use Rattle.evaluation.specs.Block.{RowsPut, Weighed}
 use Rattle.evaluation.proofs.Entries.{query-at}
 
 -- ---- axis a, of a block of m queries from query `start` of n on
@@ -27,24 +26,6 @@ block-inside {n = n} a start m h inside whole = omega (arith, mul-le-mul-right n
 -- and there is room for its rows
 pub block-room : (cap count a m : ℕ) {room : ℕ} → a < count → m ≤ cap → 4 * (cap * count) ≤ room → 4 * (cap * a + m) ≤ room
 block-room cap count a m h few fits = omega (arith, mul-le-mul-left cap h)
-
--- ---- axis after axis
-
-pub weighed-none : {row : ℕ → ℕ → List Float} {cap m : ℕ} {rows : List Float} → Weighed row cap m 0 rows
-weighed-none = record { at = λ b k h l. absurd (let q : ⊥ = omega arith in q) }
-
--- the next axis may have fewer entries than those before it
-pub weighed-next : {row : ℕ → ℕ → List Float} {cap m r a : ℕ} {old new : List Float} → m ≤ cap → r ≤ m → Weighed row cap m a old → RowsPut (row a) (cap * a) r old new → Weighed row cap r (a + 1) new
-weighed-next {cap = cap} {a = a} few less w p =
-    record {
-      at = λ b k h l. elim (eq-or-lt-of-le (let q : b ≤ a = omega arith in q)) [
-        | inl q ↦ rw q (p .each k l)
-        | inr q ↦ let below : cap * suc b ≤ cap * a = mul-le-mul-left cap q in p .before (cap * b + k) (omega (arith, below)) ∙ w .at b k q (omega arith)
-      ];
-    }
-
-pub weighed-same : {row : ℕ → ℕ → List Float} {cap m a : ℕ} {old new : List Float} → m ≤ cap → Weighed row cap m a old → RowsPut (row a) (cap * a) m old new → Weighed row cap m (a + 1) new
-weighed-same {m = m} few w p = weighed-next few (let q : m ≤ m = omega arith in q) w p
 
 -- ---- before any axis
 

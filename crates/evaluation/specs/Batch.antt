@@ -42,6 +42,13 @@ pub record Entries (bad : ℕ → Bool) (step : ℕ → List Float → List Floa
   pub answers : answer ≡ cond (ltb (before bad n) n) 6 0
   pub leaves : out′ ≡ written step (before bad n) out
 
+-- of n queries on a map: values, and gradients
+abbrev pub ValueEntries : Spline → List Float → ℕ → List Float → ℕ → List Float → Type 0
+ValueEntries s xs n out answer out′ = Entries (badAt s xs n) (valueStep s xs n) n out answer out′
+
+abbrev pub GradientEntries : Spline → List Float → ℕ → List Float → ℕ → List Float → Type 0
+GradientEntries s xs n out answer out′ = Entries (badAt s xs n) (gradientStep s xs n) n out answer out′
+
 -- `lengths` is the answer of the checks before the entries; then 6 where some entry is bad
 abbrev pub entriesAnswer : ℕ → (ℕ → Bool) → ℕ → ℕ
 entriesAnswer lengths bad n = cond (eqb lengths 0) (cond (ltb (before bad n) n) 6 0) lengths

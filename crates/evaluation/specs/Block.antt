@@ -11,7 +11,8 @@ use Rattle.shape.specs.Below.{anyBelow}
 use Rattle.shape.specs.Cells.{put, from}
 use Rattle.evaluation.specs.Axes.{query}
 use Rattle.evaluation.specs.ByAxis.{ByAxis, firstAt}
-use Rattle.evaluation.specs.Batch.{written}
+use Rattle.evaluation.specs.Spline.{Spline}
+use Rattle.evaluation.specs.Batch.{written, badAt, valueStep, gradientStep}
 
 -- row number j
 unfoldable pub rowAt : List Float → ℕ → List Float
@@ -67,3 +68,10 @@ pub record Block (bad : ℕ → Bool) (step : ℕ → List Float → List Float)
   pub good : (k : ℕ) → k < r → bad (start + k) ≡ false
   pub stops : r < m → bad (start + r) ≡ true
   pub leaves : out′ ≡ written (λ k. step (start + k)) r out
+
+-- on a map: values, and gradients
+abbrev pub ValueBlock : Spline → List Float → ℕ → ℕ → ℕ → List Float → ℕ → List Float → Type 0
+ValueBlock s xs n start m out r out′ = Block (badAt s xs n) (valueStep s xs n) start m out r out′
+
+abbrev pub GradientBlock : Spline → List Float → ℕ → ℕ → ℕ → List Float → ℕ → List Float → Type 0
+GradientBlock s xs n start m out r out′ = Block (badAt s xs n) (gradientStep s xs n) start m out r out′

@@ -6,4 +6,5 @@ pub mod Total
 pub mod Built
 pub mod Place
 pub mod Block
+pub mod Stages
 pub mod Records

@@ -1,15 +1,20 @@
 -- Four sums side by side, and the table of partial sums that gives those over one axis more. Assumes nothing.
 use mathlib.Core.Path.{_≡_, refl, sym, ap, _∙_}
-use mathlib.Core.Logic.{inl, inr}
-use mathlib.Core.List.{List, [], _∷_, _++_}
+use mathlib.Core.Logic.{inl, inr, _≢_}
+use mathlib.Core.List.{List, [], _∷_}
 use Prim.Native.Nat.{ℕ, zero, suc, _+_, _*_, _≤_, _<_}
-use native.Mathlib.Nat.{eq-or-lt-of-le}
+use native.Mathlib.Nat.{eq-or-lt-of-le, mul-le-mul-right}
 use native.Mathlib.Omega.{arith}
-use lib.ListN.{length, getD, set, length-set, List·getD-append}
-use lib.Seq.{getD-set-same, getD-set-other}
+use lib.ListN.{length, getD, set, length-set}
+use lib.Seq.{getD-set-same, getD-set-other, getD-take}
 use lib.Ieee.{Float, nan, Format}
-use Rattle.interp_math.specs.Sum.{dot4, summed, lanes, column, across}
+use Rattle.interp_math.specs.Sum.{dot4, summed, gradientPart}
+use Rattle.interp_math.specs.Table.{lanes, rowsOf, column, across, sloped, partLanes}
 use Rattle.interp_math.proofs.Sums.{summed-ext}
+
+-- the neighbours along an axis are at most three strides further
+pub near : (stride : ℕ) {p : ℕ} → p < 4 → p * stride ≤ 3 * stride
+near stride {p} h = mul-le-mul-right stride (let q : p ≤ 3 = omega arith in q)
 
 -- ---- a table of four rows, of which p are there
 
@@ -33,35 +38,60 @@ module _ {row : ℕ → List Float} {table : List (List Float)} where
         ];
       }
 
-next-at : {A : Type 0} (xs : List A) (x : A) (ys : List A) (d : A) → getD (xs ++ x ∷ ys) (length xs) d ≡ x
-next-at [] x ys d = refl
-next-at (y ∷ xs) x ys d = next-at xs x ys d
+  pub rows-as : {row′ : ℕ → List Float} {p : ℕ} → RowsTo row table p → ((k : ℕ) → row k ≡ row′ k) → RowsTo row′ table p
+  rows-as w same = record { most = w .most; four = w .four; at = λ k h. w .at k h ∙ same k }
 
-module _ (f : Format) (coefs : List Float) where
-  -- ---- lanes
+row-of : (row : ℕ → List Float) (k : ℕ) → k < 4 → getD (rowsOf row) k [] ≡ row k
+row-of row zero h = refl
+row-of row (suc zero) h = refl
+row-of row (suc (suc zero)) h = refl
+row-of row (suc (suc (suc zero))) h = refl
+row-of row (suc (suc (suc (suc k)))) h = absurd (omega (arith, h))
 
-  lane-at : (strides : List ℕ) (weights : List (List Float)) (j at q : ℕ) → q < 4 → getD (lanes f coefs strides weights j at) q nan ≡ summed f coefs strides weights j (at + q)
+-- all four
+pub rows-all : {row : ℕ → List Float} {table : List (List Float)} → table ≡ rowsOf row → RowsTo row table 4
+rows-all {row} e = record { most = omega arith; four = ap length e; at = λ k h. rw e (row-of row k h) }
+
+-- ---- lanes
+
+-- over no axis they look at no stride and no weight
+pub lanes-none : (f : Format) (coefs : List Float) (strides : List ℕ) (weights : List (List Float)) (at : ℕ) → lanes f coefs [] [] 0 at ≡ lanes f coefs strides weights 0 at
+unfolding lanes summed
+lanes-none f coefs strides weights at = refl
+
+-- the coefficients themselves, four rows along axis 0
+pub patch-rows : (f : Format) (coefs : List Float) (strides : List ℕ) (weights : List (List Float)) (s at : ℕ) {table : List (List Float)} → table ≡ rowsOf (λ p. lanes f coefs [] [] 0 (at + p * s))
+    → RowsTo (λ p. lanes f coefs strides weights 0 (at + p * s)) table 4
+patch-rows f coefs strides weights s at e = rows-as (rows-all e) (λ k. lanes-none f coefs strides weights (at + k * s))
+
+module _ (f : Format) (coefs : List Float) (strides : List ℕ) where
+  -- they look at the weights of their own axes alone
+  lanes-ext : (ws ws′ : List (List Float)) (j at : ℕ) → ((l : ℕ) → l < j → getD ws l [] ≡ getD ws′ l []) → lanes f coefs strides ws j at ≡ lanes f coefs strides ws′ j at
   unfolding lanes
-  lane-at strides weights j at zero h = let z : at + 0 ≡ at = omega arith in rw z
-  lane-at strides weights j at (suc zero) h = refl
-  lane-at strides weights j at (suc (suc zero)) h = refl
-  lane-at strides weights j at (suc (suc (suc zero))) h = refl
-  lane-at strides weights j at (suc (suc (suc (suc q)))) h = absurd (omega (arith, h))
+  lanes-ext ws ws′ j at same =
+      let one : (i : ℕ) → summed f coefs strides ws j i ≡ summed f coefs strides ws′ j i = λ i. summed-ext f coefs strides strides ws ws′ j i (λ l h. refl) same in
+      rw (one at, one (at + 1), one (at + 2), one (at + 3))
 
-  -- they look at the strides and weights of their own axes alone
-  pub lanes-more : (ss ts : List ℕ) (ws us : List (List Float)) (j at : ℕ) → j ≤ length ss → j ≤ length ws → lanes f coefs ss ws j at ≡ lanes f coefs (ss ++ ts) (ws ++ us) j at
-  unfolding lanes
-  lanes-more ss ts ws us j at hs hw =
-      let same : (i : ℕ) → summed f coefs ss ws j i ≡ summed f coefs (ss ++ ts) (ws ++ us) j i =
-      λ i. summed-ext f coefs ss (ss ++ ts) ws (ws ++ us) j i (λ l h. sym (List·getD-append ss ts 0 l (omega arith))) (λ l h. sym (List·getD-append ws us [] l (omega arith))) in
-      rw (same at, same (at + 1), same (at + 2), same (at + 3))
+  module _ (weights : List (List Float)) (j at : ℕ) where
+    lane-at : (q : ℕ) → q < 4 → getD (lanes f coefs strides weights j at) q nan ≡ summed f coefs strides weights j (at + q)
+    unfolding lanes
+    lane-at zero h = let z : at + 0 ≡ at = omega arith in rw z
+    lane-at (suc zero) h = refl
+    lane-at (suc (suc zero)) h = refl
+    lane-at (suc (suc (suc zero))) h = refl
+    lane-at (suc (suc (suc (suc q)))) h = absurd (omega (arith, h))
+
+    -- the last axis, of stride 1, makes one sum of them
+    pub lanes-end : getD strides j 0 ≡ 1 → dot4 f (getD weights j []) (lanes f coefs strides weights j at) ≡ summed f coefs strides weights (suc j) at
+    unfolding lanes summed
+    lanes-end last = rw last
 
   -- four rows of lanes along axis j make the lanes over one axis more
-  module _ (strides : List ℕ) (weights : List (List Float)) (j at : ℕ) {table : List (List Float)} {p : ℕ} (w : RowsTo (λ k. lanes f coefs strides weights j (at + k * getD strides j 0)) table p) (all : 4 ≤ p) where
+  module _ (weights : List (List Float)) (j at : ℕ) {table : List (List Float)} {p : ℕ} (w : RowsTo (λ k. lanes f coefs strides weights j (at + k * getD strides j 0)) table p) (all : 4 ≤ p) where
     entry : (k q : ℕ) → k < 4 → q < 4 → getD (getD table k []) q nan ≡ summed f coefs strides weights j (at + q + k * getD strides j 0)
     entry k q hk hq =
         let e : at + k * getD strides j 0 + q ≡ at + q + k * getD strides j 0 = omega arith in
-        ap (λ (r : List Float). getD r q nan) (w .at k (omega arith)) ∙ lane-at strides weights j _ q hq ∙ ap (summed f coefs strides weights j) e
+        ap (λ (r : List Float). getD r q nan) (w .at k (omega arith)) ∙ lane-at weights j _ q hq ∙ ap (summed f coefs strides weights j) e
 
     sum : (q : ℕ) → q < 4 → dot4 f (getD weights j []) (column table q) ≡ summed f coefs strides weights (suc j) (at + q)
     unfolding summed
@@ -69,27 +99,56 @@ module _ (f : Format) (coefs : List Float) where
         let z : at + q + 0 * getD strides j 0 ≡ at + q = omega arith in
         rw (rw z at (entry 0 q (omega arith) hq), entry 1 q (omega arith) hq, entry 2 q (omega arith) hq, entry 3 q (omega arith) hq)
 
-    lanes-up : across f (getD weights j []) table ≡ lanes f coefs strides weights (suc j) at
+    pub lanes-up : across f (getD weights j []) table ≡ lanes f coefs strides weights (suc j) at
     unfolding across lanes
     lanes-up =
         let z : at + 0 ≡ at = omega arith in
         rw (rw z at (sum 0 (omega arith)), sum 1 (omega arith), sum 2 (omega arith), sum 3 (omega arith))
 
-  -- so with a stride and weights put to those before
-  pub lanes-on : (ss : List ℕ) (ws : List (List Float)) (s : ℕ) (w : List Float) (j at : ℕ) {table : List (List Float)} {p : ℕ} → length ss ≡ j → length ws ≡ j
-      → RowsTo (λ k. lanes f coefs ss ws j (at + k * s)) table p → 4 ≤ p → across f w table ≡ lanes f coefs (ss ++ s ∷ []) (ws ++ w ∷ []) (suc j) at
-  lanes-on ss ws s w j at {table} {p} es ew rows all =
-      let own : getD (ss ++ s ∷ []) j 0 ≡ s = rw (← es) (next-at ss s [] 0) in
-      let weights : getD (ws ++ w ∷ []) j [] ≡ w = rw (← ew) (next-at ws w [] []) in
-      let wide : RowsTo (λ k. lanes f coefs (ss ++ s ∷ []) (ws ++ w ∷ []) j (at + k * getD (ss ++ s ∷ []) j 0)) table p =
-      record { most = rows .most; four = rows .four; at = λ k h. rows .at k h ∙ rw own (lanes-more ss (s ∷ []) ws (w ∷ []) j _ (omega arith) (omega arith)) } in
-      rw weights at (lanes-up (ss ++ s ∷ []) (ws ++ w ∷ []) j at wide all)
+  -- ---- of a gradient
 
-  -- and the last axis, of stride 1, makes one sum of the lanes
-  pub lanes-end : (ss ts : List ℕ) (ws us : List (List Float)) (w : List Float) (j at : ℕ) → length ss ≡ j → length ws ≡ j
-      → dot4 f w (lanes f coefs ss ws j at) ≡ summed f coefs (ss ++ 1 ∷ ts) (ws ++ w ∷ us) (suc j) at
-  unfolding lanes summed
-  lanes-end ss ts ws us w j at es ew =
-      let own : getD (ss ++ 1 ∷ ts) j 0 ≡ 1 = rw (← es) (next-at ss 1 ts 0) in
-      let weights : getD (ws ++ w ∷ us) j [] ≡ w = rw (← ew) (next-at ws w us []) in
-      rw (own, weights, lanes-more ss (1 ∷ ts) ws (w ∷ us) j at (omega arith) (omega arith))
+  module _ (weights slopes : List (List Float)) where
+    own-weights : (k : ℕ) → k < length weights → getD (sloped weights slopes k) k [] ≡ getD slopes k []
+    own-weights k h = getD-set-same weights k (getD slopes k []) [] h
+
+    other-weights : (k l : ℕ) → l ≢ k → getD (sloped weights slopes k) l [] ≡ getD weights l []
+    other-weights k l h = getD-set-other weights k l (getD slopes k []) [] h
+
+    -- over the axes before its own, a part is the value
+    lanes-before : (k j at : ℕ) → j ≤ k → lanes f coefs strides (sloped weights slopes k) j at ≡ lanes f coefs strides weights j at
+    lanes-before k j at h = lanes-ext (sloped weights slopes k) weights j at (λ l g. other-weights k l (λ z. let y : ⊥ = omega arith in y))
+
+    -- the rows that are handed back
+    pub part-row : {rows : List (List Float)} (k j at : ℕ) → k ≤ j → j < 4 → rows ≡ partLanes f coefs strides weights slopes j at → getD rows k [] ≡ lanes f coefs strides (sloped weights slopes k) j at
+    unfolding partLanes
+    part-row k j at h few e = rw e (getD-take (suc j) (rowsOf (λ k. lanes f coefs strides (sloped weights slopes k) j at)) k [] (omega arith) ∙ row-of (λ k. lanes f coefs strides (sloped weights slopes k) j at) k (omega arith))
+
+    pub value-row : {rows : List (List Float)} (j at : ℕ) → j < 4 → rows ≡ partLanes f coefs strides weights slopes j at → getD rows j [] ≡ lanes f coefs strides weights j at
+    value-row j at few e = part-row j j at (omega arith) few e ∙ lanes-before j j at (omega arith)
+
+    -- four of them along axis j: a part of an axis before it, its own, and the value, which is what the next part is so far
+    module _ (j at : ℕ) {table : List (List Float)} {p : ℕ} where
+      pub part-up : (k : ℕ) → k < j → RowsTo (λ i. lanes f coefs strides (sloped weights slopes k) j (at + i * getD strides j 0)) table p → 4 ≤ p
+          → across f (getD weights j []) table ≡ lanes f coefs strides (sloped weights slopes k) (suc j) at
+      part-up k h w all = rw (other-weights k j (λ z. let y : ⊥ = omega arith in y)) at (lanes-up (sloped weights slopes k) j at w all)
+
+      pub own-up : j < length weights → RowsTo (λ i. lanes f coefs strides weights j (at + i * getD strides j 0)) table p → 4 ≤ p
+          → across f (getD slopes j []) table ≡ lanes f coefs strides (sloped weights slopes j) (suc j) at
+      own-up h w all =
+          rw (own-weights j h) at
+          (lanes-up (sloped weights slopes j) j at (rows-as w (λ i. sym (lanes-before j j (at + i * getD strides j 0) (omega arith)))) all)
+
+      pub value-up : RowsTo (λ i. lanes f coefs strides weights j (at + i * getD strides j 0)) table p → 4 ≤ p
+          → across f (getD weights j []) table ≡ lanes f coefs strides (sloped weights slopes (suc j)) (suc j) at
+      value-up w all = lanes-up weights j at w all ∙ sym (lanes-before (suc j) (suc j) at (omega arith))
+
+    -- the last axis, of stride 1
+    pub part-end : (k j at : ℕ) → k < j → getD strides j 0 ≡ 1
+        → dot4 f (getD weights j []) (lanes f coefs strides (sloped weights slopes k) j at) ≡ gradientPart f coefs strides weights slopes (suc j) at k
+    unfolding gradientPart
+    part-end k j at h last = rw (other-weights k j (λ z. let y : ⊥ = omega arith in y)) at (lanes-end (sloped weights slopes k) j at last)
+
+    pub own-end : (j at : ℕ) → j < length weights → getD strides j 0 ≡ 1
+        → dot4 f (getD slopes j []) (lanes f coefs strides (sloped weights slopes j) j at) ≡ gradientPart f coefs strides weights slopes (suc j) at j
+    unfolding gradientPart
+    own-end j at h last = rw (own-weights j h) at (lanes-end (sloped weights slopes j) j at last)

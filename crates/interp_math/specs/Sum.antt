@@ -33,22 +33,3 @@ summed f coefs strides weights (suc j) first =
 -- part k of the gradient: the same sum, with axis k's weights replaced by its slopes
 unfoldable pub gradientPart : Format → List Float → List ℕ → List (List Float) → List (List Float) → ℕ → ℕ → ℕ → Float
 gradientPart f coefs strides weights slopes count first k = summed f coefs strides (set weights k (getD slopes k [])) count first
-
--- ---- four sums side by side
-
--- The sums over the first j axes at `at` and at its three neighbours along an axis of stride 1.
-unfoldable pub lanes : Format → List Float → List ℕ → List (List Float) → ℕ → ℕ → List Float
-lanes f coefs strides weights j at =
-    summed f coefs strides weights j at
-    ∷ summed f coefs strides weights j (at + 1)
-    ∷ summed f coefs strides weights j (at + 2)
-    ∷ summed f coefs strides weights j (at + 3)
-    ∷ []
-
--- entry q of each of four rows
-abbrev pub column : List (List Float) → ℕ → List Float
-column table q = getD (getD table 0 []) q nan ∷ getD (getD table 1 []) q nan ∷ getD (getD table 2 []) q nan ∷ getD (getD table 3 []) q nan ∷ []
-
--- the four-term sum of each column
-unfoldable pub across : Format → List Float → List (List Float) → List Float
-across f w table = dot4 f w (column table 0) ∷ dot4 f w (column table 1) ∷ dot4 f w (column table 2) ∷ dot4 f w (column table 3) ∷ []

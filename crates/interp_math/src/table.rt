@@ -1,12 +1,14 @@
 // The table of partial sums, filled level by level. The last axis has stride 1, so that the sums at four neighbours along it
 // are worked out together: a row of the table holds four sums side by side, and four rows make those over one axis more. Each
-// sum is added up by its own operations, in the order of its definition.
+// sum is added up by its own operations, in the order of its definition. Strides and weights have an entry for each axis; those
+// of the axes summed over are looked at.
 ghost use mathlib.Core.Path.{_≡_};
-ghost use mathlib.Core.List.{[], _∷_};
+ghost use mathlib.Core.List.{[]};
 ghost use Prim.Native.Nat.{_+_, _*_, _<_};
-ghost use lib.ListN.{length};
+ghost use lib.ListN.{length, getD};
 ghost use lib.Ieee.{binary64};
-ghost use Rattle.interp_math.specs.Sum.{dot4, column, lanes, across as acrossOf};
+ghost use Rattle.interp_math.specs.Sum.{dot4};
+ghost use Rattle.interp_math.specs.Table.{lanes, rowsOf, column, across as acrossOf};
 
 // Four coefficients side by side.
 pub fn neighbours(coeffs: &[f64], at: usize) -> [f64; 4]
@@ -14,6 +16,19 @@ pub fn neighbours(coeffs: &[f64], at: usize) -> [f64; 4]
     ensures { λ r. ⌜ r ≡ lanes binary64 (now (coeffs .entry)) [] [] 0 at ⌝ }
 {
     [coeffs[at], coeffs[at + 1], coeffs[at + 2], coeffs[at + 3]]
+}
+
+// Four rows of them, s apart.
+pub fn patch(coeffs: &[f64], s: usize, at: usize) -> [[f64; 4]; 4]
+    requires { ⌜ at + 3 * s + 3 < length (now coeffs) ⌝ }
+    ensures { λ r. ⌜ r ≡ rowsOf (λ p. lanes binary64 (now (coeffs .entry)) [] [] 0 (at + p * s)) ⌝ }
+{
+    [
+        neighbours(coeffs, at),
+        neighbours(coeffs, at + s),
+        neighbours(coeffs, at + 2 * s),
+        neighbours(coeffs, at + 3 * s),
+    ]
 }
 
 // The four-term sum of column q, by the operations of `dot4` in their order.
@@ -38,59 +53,38 @@ pub fn across(w: &[f64; 4], table: &[[f64; 4]; 4]) -> [f64; 4]
 }
 
 // Sums over axis 0, side by side.
-pub fn sums_1(coeffs: &[f64], s0: usize, w0: &[f64; 4], at: usize) -> [f64; 4]
-    requires { ⌜ at + 3 * s0 + 3 < length (now coeffs) ⌝ }
-    ensures { λ r. ⌜ r ≡ lanes binary64 (now (coeffs .entry)) (s0 ∷ []) (now (w0 .entry) ∷ []) 1 at ⌝ }
+pub fn sums_1(coeffs: &[f64], strides: &[usize; 4], weights: &[[f64; 4]; 4], at: usize) -> [f64; 4]
+    requires { ⌜ at + 3 * getD (now strides) 0 0 + 3 < length (now coeffs) ⌝ }
+    ensures { λ r. ⌜ r ≡ lanes binary64 (now (coeffs .entry)) (now (strides .entry)) (now (weights .entry)) 1 at ⌝ }
 {
-    let mut table = [[0.0f64; 4]; 4];
-    let mut p: usize = 0;
-    while p < 4 {
-        table[p] = neighbours(coeffs, at + p * s0);
-        p += 1;
-    }
-    across(w0, &table)
+    let table = patch(coeffs, strides[0], at);
+    across(&weights[0], &table)
 }
 
 // Sums over the axes 0 and 1, side by side.
-pub fn sums_2(
-    coeffs: &[f64],
-    s0: usize,
-    s1: usize,
-    w0: &[f64; 4],
-    w1: &[f64; 4],
-    at: usize,
-) -> [f64; 4]
-    requires { ⌜ at + 3 * (s0 + s1) + 3 < length (now coeffs) ⌝ }
-    ensures { λ r. ⌜ r ≡ lanes binary64 (now (coeffs .entry)) (s0 ∷ s1 ∷ []) (now (w0 .entry) ∷ now (w1 .entry) ∷ []) 2 at ⌝ }
+pub fn sums_2(coeffs: &[f64], strides: &[usize; 4], weights: &[[f64; 4]; 4], at: usize) -> [f64; 4]
+    requires { ⌜ at + 3 * (getD (now strides) 0 0 + getD (now strides) 1 0) + 3 < length (now coeffs) ⌝ }
+    ensures { λ r. ⌜ r ≡ lanes binary64 (now (coeffs .entry)) (now (strides .entry)) (now (weights .entry)) 2 at ⌝ }
 {
     let mut table = [[0.0f64; 4]; 4];
     let mut p: usize = 0;
     while p < 4 {
-        table[p] = sums_1(coeffs, s0, w0, at + p * s1);
+        table[p] = sums_1(coeffs, strides, weights, at + p * strides[1]);
         p += 1;
     }
-    across(w1, &table)
+    across(&weights[1], &table)
 }
 
 // Sums over the axes 0 to 2, side by side.
-pub fn sums_3(
-    coeffs: &[f64],
-    s0: usize,
-    s1: usize,
-    s2: usize,
-    w0: &[f64; 4],
-    w1: &[f64; 4],
-    w2: &[f64; 4],
-    at: usize,
-) -> [f64; 4]
-    requires { ⌜ at + 3 * (s0 + s1 + s2) + 3 < length (now coeffs) ⌝ }
-    ensures { λ r. ⌜ r ≡ lanes binary64 (now (coeffs .entry)) (s0 ∷ s1 ∷ s2 ∷ []) (now (w0 .entry) ∷ now (w1 .entry) ∷ now (w2 .entry) ∷ []) 3 at ⌝ }
+pub fn sums_3(coeffs: &[f64], strides: &[usize; 4], weights: &[[f64; 4]; 4], at: usize) -> [f64; 4]
+    requires { ⌜ at + 3 * (getD (now strides) 0 0 + getD (now strides) 1 0 + getD (now strides) 2 0) + 3 < length (now coeffs) ⌝ }
+    ensures { λ r. ⌜ r ≡ lanes binary64 (now (coeffs .entry)) (now (strides .entry)) (now (weights .entry)) 3 at ⌝ }
 {
     let mut table = [[0.0f64; 4]; 4];
     let mut p: usize = 0;
     while p < 4 {
-        table[p] = sums_2(coeffs, s0, s1, w0, w1, at + p * s2);
+        table[p] = sums_2(coeffs, strides, weights, at + p * strides[2]);
         p += 1;
     }
-    across(w2, &table)
+    across(&weights[2], &table)
 }

@@ -3,3 +3,4 @@ pub mod Thomas
 pub mod Line
 pub mod Records
 pub mod Total
+pub mod Place

@@ -1,12 +1,11 @@
 -- What `coefficients` answers and leaves, for a rectilinear map of the axes `take count lens` on a joined grid. Assumes nothing.
-use mathlib.Core.List.{List, []}
+use mathlib.Core.List.{List, [], _∷_}
 use Prim.Native.Nat.{ℕ}
 use lib.ListN.{length, take}
 use lib.Ieee.{Float, Format, nan}
-use Rattle.shape.specs.Shape.{size}
 use Rattle.shape.specs.Fit as Axes
 use Rattle.shape.specs.Fit.{Fitted}
-use Rattle.shape.specs.Checks.{Check, firstRefusal, inOrder, shapeChecks, lengthCheck, scratchCheck}
+use Rattle.shape.specs.Checks.{Check, firstRefusal, fittingChecks}
 use Rattle.knots.specs.Joined.{knotsOf}
 use Rattle.knots.specs.Checks.{gridCheck, knotsCheck}
 use Rattle.rectilinear_weights.specs.Ghosts.{lowGhostCoeffs, highGhostCoeffs}
@@ -30,28 +29,12 @@ rectilinearScratch f grid dims samples scratch =
 -- the checks of the fit, by the lengths of its buffers
 unfoldable pub rectilinearFitChecks : ℕ → List ℕ → List Float → ℕ → ℕ → ℕ → List Check
 rectilinearFitChecks count lens grid samples coefs scratch =
-    let dims = take count lens in
-    inOrder
-    (record {
-      shape = shapeChecks count lens;
-      grid = gridCheck dims grid;
-      coefs = lengthCheck (size dims) coefs;
-      ledger = [];
-      knots = knotsCheck dims grid;
-      samples = lengthCheck (size dims) samples;
-      scratch = scratchCheck dims scratch;
-      line = [];
-    })
+    fittingChecks count lens (gridCheck (take count lens) grid) (knotsCheck (take count lens) grid) coefs [] (samples ∷ []) scratch []
 
 -- an accepted fit leaves the coefficients; a refusal changes nothing
 abbrev pub RectilinearFitted : Format → ℕ → List ℕ → List Float → List Float → List Float → List Float → ℕ → List Float → List Float → Type 0
 RectilinearFitted f count lens grid samples coefs scratch answer coefs′ scratch′ =
-    Fitted
-    (firstRefusal (rectilinearFitChecks count lens grid (length samples) (length coefs) (length scratch)))
+    Fitted (firstRefusal (rectilinearFitChecks count lens grid (length samples) (length coefs) (length scratch)))
     (rectilinearFit f grid (take count lens) samples)
     (rectilinearScratch f grid (take count lens) samples scratch)
-    coefs
-    scratch
-    answer
-    coefs′
-    scratch′
+    coefs scratch answer coefs′ scratch′

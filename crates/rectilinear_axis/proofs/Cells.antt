@@ -1,4 +1,7 @@
--- Numbers of a block, put one after the other into a list. Assumes nothing.
+-- The loop that writes numbers of a block into a list, one after the other, from a cell on. Assumes nothing.
+--     entry     the number of each query
+--     base, m   the cell of the first, and how many there are
+--     old       what is written into, before the loop
 use mathlib.Core.Path.{_≡_, refl, _∙_}
 use mathlib.Core.Logic.{inl, inr}
 use mathlib.Core.List.{List}
@@ -7,34 +10,33 @@ use native.Mathlib.Nat.{eq-or-lt-of-le}
 use native.Mathlib.Omega.{arith}
 use lib.ListN.{length, getD, set, length-set}
 use lib.Seq.{getD-set-same, getD-set-other}
-use Rattle.rectilinear_axis.specs.Axis.{Holds}
+use Rattle.rectilinear_axis.specs.Axis.{CellsPut}
 
-holds-none : {entry : ℕ → ℕ} {list : List ℕ} → Holds entry 0 list
-holds-none = record { each = λ k h. absurd (let q : ⊥ = omega arith in q) }
+module _ (entry : ℕ → ℕ) (base m : ℕ) (old : List ℕ) where
+  -- k cells are written
+  pub record CellsSoFar (new : List ℕ) (k : ℕ) : Type 0 where
+    pub most : k ≤ m
+    pub same-length : length new ≡ length old
+    pub so-far : CellsPut entry base k old new
 
--- one more
-holds-next : {entry : ℕ → ℕ} {list : List ℕ} {i : ℕ} (v : ℕ) → Holds entry i list → i < length list → v ≡ entry i → Holds entry (i + 1) (set list i v)
-holds-next {entry} {list} {i} v w h e =
-    record {
-      each = λ k l. elim (eq-or-lt-of-le (let q : k ≤ i = omega arith in q)) [
-        | inl q ↦ rw q (getD-set-same list i v 0 h ∙ e)
-        | inr q ↦ getD-set-other list i k v 0 (λ z. let y : ⊥ = omega arith in y) ∙ w .each k q
-      ];
-    }
+  pub cells-start : CellsSoFar old 0
+  cells-start =
+      record { most = omega arith; same-length = refl; so-far = record { each = λ k h. absurd (let q : ⊥ = omega arith in q); before = λ i h. refl; after = λ i h. refl } }
 
--- with the numbers of the entries to come as they were
-pub record Moving (entry : ℕ → ℕ) (i : ℕ) (old new : List ℕ) : Type 0 where
-  pub same-length : length new ≡ length old
-  pub done : Holds entry i new
-  pub after : (k : ℕ) → i ≤ k → getD new k 0 ≡ getD old k 0
+  pub cells-next : {new : List ℕ} {i k : ℕ} (v : ℕ) → CellsSoFar new k → k < m → base + m ≤ length old → i ≡ base + k → v ≡ entry k → CellsSoFar (set new i v) (k + 1)
+  cells-next {new} {i} {k} v w h fits at e =
+      record {
+        most = omega arith;
+        same-length = length-set new i v ∙ w .same-length;
+        so-far = record {
+          each = λ j l. elim (eq-or-lt-of-le (let q : j ≤ k = omega arith in q)) [
+            | inl q ↦ rw (q, ← at) (getD-set-same new i v 0 (omega (arith, w .same-length)) ∙ e)
+            | inr q ↦ getD-set-other new i (base + j) v 0 (λ z. let y : ⊥ = omega arith in y) ∙ w .so-far .each j q
+          ];
+          before = λ j l. getD-set-other new i j v 0 (λ z. let y : ⊥ = omega arith in y) ∙ w .so-far .before j l;
+          after = λ j l. getD-set-other new i j v 0 (λ z. let y : ⊥ = omega arith in y) ∙ w .so-far .after j (omega arith);
+        };
+      }
 
-pub moving-start : {entry : ℕ → ℕ} {list : List ℕ} → Moving entry 0 list list
-moving-start = record { same-length = refl; done = holds-none; after = λ k h. refl }
-
-pub moving-next : {entry : ℕ → ℕ} {old new : List ℕ} {i : ℕ} (v : ℕ) → Moving entry i old new → i < length old → v ≡ entry i → Moving entry (i + 1) old (set new i v)
-moving-next {entry} {old} {new} {i} v w h e =
-    record {
-      same-length = length-set new i v ∙ w .same-length;
-      done = holds-next v (w .done) (omega (arith, w .same-length)) e;
-      after = λ k l. getD-set-other new i k v 0 (λ z. let y : ⊥ = omega arith in y) ∙ w .after k (omega arith);
-    }
+  pub cells-done : {new : List ℕ} {k : ℕ} → CellsSoFar new k → m ≤ k → CellsPut entry base m old new
+  cells-done {new} {k} w h = let e : k ≡ m = omega (arith, w .most) in rw e at (w .so-far)

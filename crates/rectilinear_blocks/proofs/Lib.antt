@@ -1,4 +1,4 @@
 pub mod Ghosts
-pub mod Places
-pub mod Blocks
+pub mod Room
 pub mod Figures
+pub mod Stages

@@ -1,28 +1,25 @@
--- A block of queries, from query `start` of n on, axis by axis: what its buffers hold. Assumes nothing.
+-- A block of queries on a rectilinear map, stage by stage (evaluation/specs/Stages.antt): what is kept of a place, and the rows. What
+-- functions of the library promise each other; a caller has no use for it. Assumes nothing.
+use mathlib.Core.Path.{_≡_}
 use mathlib.Core.List.{List}
-use Prim.Native.Nat.{ℕ, _+_, _*_, _≤_}
-use lib.ListN.{take}
-use lib.Ieee.{Float, Format}
-use Rattle.evaluation.specs.Axes.{query, firstOver}
+use Prim.Native.Nat.{ℕ, _+_, _*_}
+use lib.ListN.{getD}
+use lib.Ieee.{Float, Format, nan}
+use Rattle.knots.specs.Knots.{countBelow}
+use Rattle.evaluation.specs.Axes.{query}
+use Rattle.evaluation.specs.Stages.{PlacedBy}
 use Rattle.rectilinear_blocks.specs.Map.{RectilinearMap}
-use Rattle.rectilinear_blocks.specs.Eval.{knotsOn, locOn, weightsOn, slopesOn}
-use Rattle.rectilinear_axis.specs.Axis.{countAt}
+use Rattle.rectilinear_blocks.specs.Eval.{knotsOn, weightsOn, slopesOn, rectilinearAxes}
 
--- m queries from `start` on are among the n, and all coordinates are there
-pub record InBatch (count xs n start m : ℕ) : Type 0 where
-  pub whole : count * n ≤ xs
-  pub inside : start + m ≤ n
+-- of query k of the block on axis b: the knots below its coordinate
+abbrev pub KeptIn : RectilinearMap → List Float → List Float → ℕ → ℕ → ℕ → List ℕ → ℕ → ℕ → Type 0
+KeptIn map grid xs n start cap spots b k = getD spots (cap * (b + 1) + k) 0 ≡ countBelow (knotsOn (map .count) (map .lens) grid b) (getD (query (map .count) xs n (start + k)) b nan)
 
--- of query k of the block: the knots of axis a below its coordinate, and the first of the coefficients that count over the first
--- a axes
-module _ (count : ℕ) (lens : List ℕ) (grid xs : List Float) (n start a k : ℕ) where
-  abbrev pub countOn : ℕ
-  countOn = countAt (knotsOn count lens grid a) xs (a * n + start) k
+-- the first a axes have been looked at
+abbrev pub PlacedTo : Format → RectilinearMap → List Float → List Float → ℕ → ℕ → ℕ → ℕ → ℕ → ℕ → List ℕ → Type 0
+PlacedTo f map grid xs n start cap m a good spots = PlacedBy (KeptIn map grid xs n start cap spots) (rectilinearAxes f map grid) xs n start m a good spots
 
-  abbrev pub firstAt : ℕ
-  firstAt = firstOver (take count lens) (λ b. locOn count lens grid (query count xs n (start + k)) b .origin) a
-
--- its weights on axis a, and their slopes
+-- the weights of query k on axis a, and their slopes
 module _ (f : Format) (m : RectilinearMap) (grid xs : List Float) (n start a k : ℕ) where
   abbrev pub weightsFor : List Float
   weightsFor = weightsOn f m grid (query (m .count) xs n (start + k)) a

@@ -1,5 +1,4 @@
--- A record, a joined grid and coefficients that are accepted, and what the functions that evaluate a block are handed. Assumes
--- nothing.
+-- A record, a joined grid and coefficients that are accepted. Assumes nothing.
 use mathlib.Core.Path.{_≡_}
 use mathlib.Core.Bool.{true}
 use mathlib.Core.List.{List}
@@ -9,7 +8,6 @@ use lib.Ieee.{Float}
 use Rattle.shape.specs.Shape.{size}
 use Rattle.shape.specs.Usable.{Usable}
 use Rattle.knots.specs.Joined.{total, allRise}
-use Rattle.evaluation.specs.Axes.{strides}
 
 -- a record and a joined grid that are accepted: the shape, the grid's length, knots that rise on every axis
 pub record Gridded (count : ℕ) (lens : List ℕ) (grid : List Float) : Type 0 where
@@ -21,9 +19,3 @@ pub record Gridded (count : ℕ) (lens : List ℕ) (grid : List Float) : Type 0 
 pub record Sound (count : ℕ) (lens : List ℕ) (grid : List Float) (coefs : ℕ) : Type 0 where
   pub gridded : Gridded count lens grid
   pub sized : coefs ≡ size (take count lens)
-
--- what the functions that evaluate a block are handed: strides worked out
-pub record Laid (count : ℕ) (lens : List ℕ) (grid : List Float) (ss : List ℕ) : Type 0 where
-  pub gridded : Gridded count lens grid
-  pub four : length lens ≡ 4
-  pub strides-are : ss ≡ strides count lens

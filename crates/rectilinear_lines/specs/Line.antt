@@ -14,12 +14,7 @@ use Rattle.rectilinear_lines.specs.Rows.{coefficient, upperNumber}
 abbrev pub LineSolved : Format → List Float → List Float → List Float → ℕ → ℕ → ℕ → List Float → List Float → ℕ → List Float → List Float → Type 0
 LineSolved f ks low high base stride m coefs scratch answer coefs′ scratch′ =
     let y = line nan base stride coefs in
-    Fitted
-    (lineAnswer base stride (length ks) m (length coefs) (length scratch))
+    Fitted (lineAnswer base stride (length ks) m (length coefs) (length scratch))
     (writeLine base stride (coefficient f ks low high y) (length ks) coefs)
     (lineScratch m (upperNumber f ks low high y) (coefficient f ks low high y) (length ks) scratch)
-    coefs
-    scratch
-    answer
-    coefs′
-    scratch′
+    coefs scratch answer coefs′ scratch′

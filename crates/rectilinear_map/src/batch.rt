@@ -3,55 +3,49 @@
 ghost use lib.Ieee.{binary64};
 ghost use Rattle.shape.specs.Refusal.{answerNumber};
 ghost use Rattle.evaluation.specs.Batch.{ValueBatch, GradientBatch};
-ghost use Rattle.rectilinear_blocks.specs.Map.{RectilinearMap};
-ghost use Rattle.rectilinear_blocks.specs.Records.{ghosts};
 ghost use Rattle.rectilinear_blocks.specs.Eval.{rectilinear};
+ghost use Rattle.rectilinear_map.specs.Records.{mapOf};
+use crate::blocks::put_gradients;
+use crate::blocks::put_values;
 use crate::build::check_map;
-use rectilinear_batches::put_gradients;
-use rectilinear_batches::put_values;
-use rectilinear_weights::Ghost;
+use crate::grid::grid_of;
+use crate::record::MultiBsplineRectilinear;
 use shape::Answer;
 use shape::Refusal;
 
 // Values at a batch of queries.
 pub fn values(
-    count: usize,
-    dims: [usize; 4],
-    low: [Ghost; 4],
-    high: [Ghost; 4],
-    linear: bool,
+    map: MultiBsplineRectilinear,
     grid: &[f64],
     coeffs: &[f64],
     xs: &[f64],
     out: &mut [f64],
 ) -> Answer
-    ensures { λ r. ⌜ ValueBatch (rectilinear binary64 (record { count = count; lens = dims; low = ghosts low; high = ghosts high; linear = linear }) (now (grid .entry)) (now (coeffs .entry))) (now (xs .entry)) (now (out .entry)) (answerNumber r) (now (out .exit)) ⌝ }
+    ensures { λ r. ⌜ ValueBatch (rectilinear binary64 (mapOf map) (now (grid .entry)) (now (coeffs .entry))) (now (xs .entry)) (now (out .entry)) (answerNumber r) (now (out .exit)) ⌝ }
 {
-    if let Answer::Refused(refusal) = check_map(count, dims, grid, coeffs.len()) {
+    let dims = map.dims;
+    if let Answer::Refused(refusal) = check_map(map.count, dims, grid, coeffs.len()) {
         return Answer::Refused(refusal);
     }
     let n = out.len();
-    if xs.len() != count * n {
+    if xs.len() != map.count * n {
         return Answer::Refused(Refusal::DimensionMismatch);
     }
-    put_values(count, dims, low, high, linear, grid, coeffs, xs, n, out);
-    Answer::Accepted
+    put_values(grid_of(map), grid, coeffs, xs, n, out)
 }
 
 // Gradients at a batch of queries.
 pub fn gradients(
-    count: usize,
-    dims: [usize; 4],
-    low: [Ghost; 4],
-    high: [Ghost; 4],
-    linear: bool,
+    map: MultiBsplineRectilinear,
     grid: &[f64],
     coeffs: &[f64],
     xs: &[f64],
     out: &mut [f64],
 ) -> Answer
-    ensures { λ r. ⌜ GradientBatch (rectilinear binary64 (record { count = count; lens = dims; low = ghosts low; high = ghosts high; linear = linear }) (now (grid .entry)) (now (coeffs .entry))) (now (xs .entry)) (now (out .entry)) (answerNumber r) (now (out .exit)) ⌝ }
+    ensures { λ r. ⌜ GradientBatch (rectilinear binary64 (mapOf map) (now (grid .entry)) (now (coeffs .entry))) (now (xs .entry)) (now (out .entry)) (answerNumber r) (now (out .exit)) ⌝ }
 {
+    let dims = map.dims;
+    let count = map.count;
     if let Answer::Refused(refusal) = check_map(count, dims, grid, coeffs.len()) {
         return Answer::Refused(refusal);
     }
@@ -62,6 +56,5 @@ pub fn gradients(
         return Answer::Refused(Refusal::DimensionMismatch);
     }
     let n = out.len() / count;
-    put_gradients(count, dims, low, high, linear, grid, coeffs, xs, n, out);
-    Answer::Accepted
+    put_gradients(grid_of(map), grid, coeffs, xs, n, out)
 }

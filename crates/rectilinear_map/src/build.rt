@@ -6,17 +6,16 @@ ghost use Prim.Native.Nat.{ℕ, _<_};
 ghost use lib.Dec.{ltb};
 ghost use lib.ListN.{length, take};
 ghost use lib.Ieee.{binary64};
-ghost use Rattle.shape.specs.Checks.{firstRefusal};
 ghost use Rattle.shape.specs.Refusal.{answerNumber, refusalNumber};
 ghost use Rattle.shape.specs.Usable.{Usable};
 ghost use Rattle.knots.specs.Joined.{knotsOf, total};
 ghost use Rattle.rectilinear_weights.specs.Ghosts.{lowGhostCoeffs, highGhostCoeffs};
 ghost use Rattle.rectilinear_weights.specs.Records.{ghostNumbers};
-ghost use Rattle.rectilinear.specs.Fit.{rectilinearFitChecks, RectilinearFitted};
+ghost use Rattle.rectilinear.specs.Fit.{RectilinearFitted};
 ghost use Rattle.rectilinear_blocks.specs.Map.{RectilinearMap};
 ghost use Rattle.rectilinear_blocks.specs.Records.{ghosts};
-ghost use Rattle.rectilinear_map.specs.Map.{noGhost, lowGhosts, highGhosts, made, blank, RectilinearBuilt};
-ghost use Rattle.rectilinear_map.specs.Records.{mapOf};
+ghost use Rattle.rectilinear_map.specs.Map.{noGhost, lowGhosts, highGhosts, made, blank};
+ghost use Rattle.rectilinear_map.specs.Records.{mapOf, BuiltAs, BuiltByFit};
 ghost use Rattle.rectilinear_blocks.specs.Eval.{gridAnswer, mapAnswer};
 use crate::record::Built;
 use crate::record::MultiBsplineRectilinear;
@@ -161,7 +160,7 @@ fn accepted(count: usize, dims: [usize; 4], grid: &[f64], linear: bool) -> Built
 }
 
 pub fn build(count: usize, dims: [usize; 4], grid: &[f64], linear: bool, coeffs: usize) -> Built
-    ensures { λ r. ⌜ RectilinearBuilt binary64 (mapAnswer count dims (now (grid .entry)) coeffs) count dims (now (grid .entry)) linear (answerNumber (r .answer)) (mapOf (r .map)) ⌝ }
+    ensures { λ r. ⌜ BuiltAs binary64 (mapAnswer count dims (now (grid .entry)) coeffs) count dims (now (grid .entry)) linear r ⌝ }
 {
     if let Answer::Refused(refusal) = check_map(count, dims, grid, coeffs) {
         return refused(refusal);
@@ -171,7 +170,7 @@ pub fn build(count: usize, dims: [usize; 4], grid: &[f64], linear: bool, coeffs:
 
 // From the grid alone; the knots are left to the calls that evaluate the map.
 pub fn of_grid(count: usize, dims: [usize; 4], grid: &[f64], linear: bool) -> Built
-    ensures { λ r. ⌜ RectilinearBuilt binary64 (gridAnswer count dims (now (grid .entry))) count dims (now (grid .entry)) linear (answerNumber (r .answer)) (mapOf (r .map)) ⌝ }
+    ensures { λ r. ⌜ BuiltAs binary64 (gridAnswer count dims (now (grid .entry))) count dims (now (grid .entry)) linear r ⌝ }
 {
     let shape = Shape { count, dims };
     if let Answer::Refused(refusal) = shape.check() {
@@ -192,7 +191,7 @@ pub fn from_values(
     coeffs: &mut [f64],
     scratch: &mut [f64],
 ) -> Built
-    ensures { λ r. ⌜ RectilinearBuilt binary64 (firstRefusal (rectilinearFitChecks count dims (now (grid .entry)) (length (now (vals .entry))) (length (now (coeffs .entry))) (length (now (scratch .entry))))) count dims (now (grid .entry)) linear (answerNumber (r .answer)) (mapOf (r .map)) ⌝ }
+    ensures { λ r. ⌜ BuiltByFit binary64 count dims (now (grid .entry)) linear (now (vals .entry)) (now (coeffs .entry)) (now (scratch .entry)) r ⌝ }
     ensures { λ r. ⌜ RectilinearFitted binary64 count dims (now (grid .entry)) (now (vals .entry)) (now (coeffs .entry)) (now (scratch .entry)) (answerNumber (r .answer)) (now (coeffs .exit)) (now (scratch .exit)) ⌝ }
 {
     let shape = Shape { count, dims };

@@ -2,10 +2,13 @@
 // interpn's multibspline::rectilinear.
 mod answers;
 mod batch;
+mod blocks;
 mod build;
 mod eval;
+mod grid;
 mod place;
 mod record;
+mod single;
 
 pub use answers::Placed;
 pub use build::blank;

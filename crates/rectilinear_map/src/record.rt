@@ -3,15 +3,13 @@
 ghost use mathlib.Core.Path.{_≡_};
 ghost use lib.ListN.{length};
 ghost use lib.Ieee.{binary64};
-ghost use Rattle.shape.specs.Checks.{firstRefusal};
 ghost use Rattle.shape.specs.Refusal.{answerNumber};
 ghost use Rattle.shape.specs.Sizes.{strideOf};
-ghost use Rattle.rectilinear.specs.Fit.{rectilinearFitChecks, RectilinearFitted};
+ghost use Rattle.rectilinear.specs.Fit.{RectilinearFitted};
 ghost use Rattle.evaluation.specs.Records.{valuedNumber, valuedValue};
 ghost use Rattle.evaluation.specs.Spline.{OneValue, OneGradient};
 ghost use Rattle.evaluation.specs.Batch.{ValueBatch, GradientBatch};
-ghost use Rattle.rectilinear_map.specs.Map.{RectilinearBuilt};
-ghost use Rattle.rectilinear_map.specs.Records.{mapOf};
+ghost use Rattle.rectilinear_map.specs.Records.{mapOf, BuiltAs, BuiltByFit};
 ghost use Rattle.rectilinear_map.specs.Place.{RectilinearPlaced};
 ghost use Rattle.rectilinear_blocks.specs.Eval.{gridAnswer, mapAnswer, rectilinear};
 use crate::answers::Placed;
@@ -83,38 +81,14 @@ impl MultiBsplineRectilinear {
     pub fn interp_one(self, grid: &[f64], coeffs: &[f64], x: &[f64]) -> Valued
         ensures { λ r. ⌜ OneValue (rectilinear binary64 (mapOf self) (now (grid .entry)) (now (coeffs .entry))) (now (x .entry)) (valuedNumber r) (valuedValue r) ⌝ }
     {
-        let dims = self.dims;
-        let low = self.low_ghost_coeffs;
-        let high = self.high_ghost_coeffs;
-        eval::one(
-            self.count,
-            dims,
-            low,
-            high,
-            self.linearize_extrapolation,
-            grid,
-            coeffs,
-            x,
-        )
+        eval::one(self, grid, coeffs, x)
     }
 
     // The gradient at a query, with the refusals of interp_one.
     pub fn interp_one_grad(self, grid: &[f64], coeffs: &[f64], x: &[f64]) -> Gradient
         ensures { λ r. ⌜ OneGradient (rectilinear binary64 (mapOf self) (now (grid .entry)) (now (coeffs .entry))) (now (x .entry)) (answerNumber (r .answer)) (r .parts) ⌝ }
     {
-        let dims = self.dims;
-        let low = self.low_ghost_coeffs;
-        let high = self.high_ghost_coeffs;
-        eval::one_grad(
-            self.count,
-            dims,
-            low,
-            high,
-            self.linearize_extrapolation,
-            grid,
-            coeffs,
-            x,
-        )
+        eval::one_grad(self, grid, coeffs, x)
     }
 
     // Values at a batch of queries, axis after axis: `out.len()` coordinates of axis 0, then those of axis 1, and so on. The
@@ -122,20 +96,7 @@ impl MultiBsplineRectilinear {
     pub fn interp(self, grid: &[f64], coeffs: &[f64], x: &[f64], out: &mut [f64]) -> Answer
         ensures { λ r. ⌜ ValueBatch (rectilinear binary64 (mapOf self) (now (grid .entry)) (now (coeffs .entry))) (now (x .entry)) (now (out .entry)) (answerNumber r) (now (out .exit)) ⌝ }
     {
-        let dims = self.dims;
-        let low = self.low_ghost_coeffs;
-        let high = self.high_ghost_coeffs;
-        batch::values(
-            self.count,
-            dims,
-            low,
-            high,
-            self.linearize_extrapolation,
-            grid,
-            coeffs,
-            x,
-            out,
-        )
+        batch::values(self, grid, coeffs, x, out)
     }
 
     // Gradients at a batch of queries, both axis after axis: of n entries, part k of entry i at k n + i. As `interp`; 2 also
@@ -143,26 +104,13 @@ impl MultiBsplineRectilinear {
     pub fn interp_grad(self, grid: &[f64], coeffs: &[f64], x: &[f64], out: &mut [f64]) -> Answer
         ensures { λ r. ⌜ GradientBatch (rectilinear binary64 (mapOf self) (now (grid .entry)) (now (coeffs .entry))) (now (x .entry)) (now (out .entry)) (answerNumber r) (now (out .exit)) ⌝ }
     {
-        let dims = self.dims;
-        let low = self.low_ghost_coeffs;
-        let high = self.high_ghost_coeffs;
-        batch::gradients(
-            self.count,
-            dims,
-            low,
-            high,
-            self.linearize_extrapolation,
-            grid,
-            coeffs,
-            x,
-            out,
-        )
+        batch::gradients(self, grid, coeffs, x, out)
     }
 
     // A map from its coefficients, or the first of these refusals: 1, 2, 3 for the shape; 2, the length of the joined grid;
     // 2, the length of `coeffs`; 5, a knot not above the one before it.
     pub fn new(shape: Shape, grid: &[f64], coeffs: &[f64], linearize_extrapolation: bool) -> Built
-        ensures { λ r. ⌜ RectilinearBuilt binary64 (mapAnswer (shape .count) (shape .dims) (now (grid .entry)) (length (now (coeffs .entry)))) (shape .count) (shape .dims) (now (grid .entry)) «linearize_extrapolation» (answerNumber (r .answer)) (mapOf (r .map)) ⌝ }
+        ensures { λ r. ⌜ BuiltAs binary64 (mapAnswer (shape .count) (shape .dims) (now (grid .entry)) (length (now (coeffs .entry)))) (shape .count) (shape .dims) (now (grid .entry)) «linearize_extrapolation» r ⌝ }
     {
         let dims = shape.dims;
         build::build(
@@ -177,7 +125,7 @@ impl MultiBsplineRectilinear {
     // A map from its grid, for a caller that builds it anew for each call that evaluates it: that call looks at the knots
     // and the coefficients, so that they are looked at once. 1, 2, 3 for the shape; 2, the length of the joined grid.
     pub fn of_grid(shape: Shape, grid: &[f64], linearize_extrapolation: bool) -> Built
-        ensures { λ r. ⌜ RectilinearBuilt binary64 (gridAnswer (shape .count) (shape .dims) (now (grid .entry))) (shape .count) (shape .dims) (now (grid .entry)) «linearize_extrapolation» (answerNumber (r .answer)) (mapOf (r .map)) ⌝ }
+        ensures { λ r. ⌜ BuiltAs binary64 (gridAnswer (shape .count) (shape .dims) (now (grid .entry))) (shape .count) (shape .dims) (now (grid .entry)) «linearize_extrapolation» r ⌝ }
     {
         let dims = shape.dims;
         build::of_grid(shape.count, dims, grid, linearize_extrapolation)
@@ -193,7 +141,7 @@ impl MultiBsplineRectilinear {
         scratch: &mut [f64],
         linearize_extrapolation: bool,
     ) -> Built
-        ensures { λ r. ⌜ RectilinearBuilt binary64 (firstRefusal (rectilinearFitChecks (shape .count) (shape .dims) (now (grid .entry)) (length (now (vals .entry))) (length (now (coeffs .entry))) (length (now (scratch .entry))))) (shape .count) (shape .dims) (now (grid .entry)) «linearize_extrapolation» (answerNumber (r .answer)) (mapOf (r .map)) ⌝ }
+        ensures { λ r. ⌜ BuiltByFit binary64 (shape .count) (shape .dims) (now (grid .entry)) «linearize_extrapolation» (now (vals .entry)) (now (coeffs .entry)) (now (scratch .entry)) r ⌝ }
         ensures { λ r. ⌜ RectilinearFitted binary64 (shape .count) (shape .dims) (now (grid .entry)) (now (vals .entry)) (now (coeffs .entry)) (now (scratch .entry)) (answerNumber (r .answer)) (now (coeffs .exit)) (now (scratch .exit)) ⌝ }
     {
         let dims = shape.dims;

@@ -3,7 +3,7 @@
 --     ks          the knots
 --     low, high   the ghost numbers of the two ends
 --     straight    whether the straight line from the end is taken
-use mathlib.Core.Bool.{Bool, false, cond}
+use mathlib.Core.Bool.{Bool, cond}
 use mathlib.Core.List.{List, [], _∷_}
 use Prim.Native.Nat.{ℕ, _-_}
 use lib.ListN.{length}
@@ -11,8 +11,8 @@ use lib.Ieee.{Float, Format, sub}
 use Rattle.interp_math.specs.Sum.{mulAdd}
 use Rattle.multibspline.specs.Numbers.{f0}
 use Rattle.multibspline.specs.Thomas.{at}
+use Rattle.multibspline.specs.Place.{byPlace}
 use Rattle.multibspline.specs.declared.saturation.Saturation.{Saturation}
-use Rattle.multibspline.specs.declared.saturation.Saturation.the-variants.{None, InsideLow, OutsideLow, InsideHigh, OutsideHigh}
 use Rattle.rectilinear_basis.specs.Basis.{four, basisSpanWeights}
 use Rattle.rectilinear_slopes.specs.Slopes.{basisSpanWeightDerivatives}
 
@@ -61,19 +61,14 @@ module _ (f : Format) (ks ghost : List Float) (straight : Bool) (x : Float) wher
       let n = length ks in
       foldHigh f ghost (basisSpanWeightDerivatives f ks (n - 2) (cond straight (at ks (n - 1)) x))
 
--- ---- by the place of the query and the axis's flag: a place inside is never extended in a straight line
+-- ---- by the place of the query and the axis's flag
 
 module _ (f : Format) (ks low high : List Float) (linear : Bool) (span : ℕ) (x : Float) where
   unfoldable pub interpWeights : Saturation → List Float
-  interpWeights None = basisSpanWeights f ks span x
-  interpWeights InsideLow = lowBoundaryWeights f ks low false x
-  interpWeights OutsideLow = lowBoundaryWeights f ks low linear x
-  interpWeights InsideHigh = highBoundaryWeights f ks high false x
-  interpWeights OutsideHigh = highBoundaryWeights f ks high linear x
+  interpWeights sat =
+      byPlace linear (basisSpanWeights f ks span x) (λ straight. lowBoundaryWeights f ks low straight x) (λ straight. highBoundaryWeights f ks high straight x) sat
 
   unfoldable pub interpWeightDerivatives : Saturation → List Float
-  interpWeightDerivatives None = basisSpanWeightDerivatives f ks span x
-  interpWeightDerivatives InsideLow = lowBoundaryWeightDerivatives f ks low false x
-  interpWeightDerivatives OutsideLow = lowBoundaryWeightDerivatives f ks low linear x
-  interpWeightDerivatives InsideHigh = highBoundaryWeightDerivatives f ks high false x
-  interpWeightDerivatives OutsideHigh = highBoundaryWeightDerivatives f ks high linear x
+  interpWeightDerivatives sat =
+      byPlace linear (basisSpanWeightDerivatives f ks span x) (λ straight. lowBoundaryWeightDerivatives f ks low straight x)
+      (λ straight. highBoundaryWeightDerivatives f ks high straight x) sat

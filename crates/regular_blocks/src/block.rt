@@ -5,11 +5,10 @@ ghost use Prim.Native.Nat.{_+_, _*_, _≤_};
 ghost use lib.ListN.{length, take};
 ghost use lib.Ieee.{binary64};
 ghost use Rattle.shape.specs.Shape.{size};
-ghost use Rattle.evaluation.specs.Batch.{badAt, valueStep, gradientStep};
-ghost use Rattle.evaluation.specs.Block.{Block};
+ghost use Rattle.evaluation.specs.Block.{ValueBlock, GradientBlock};
+ghost use Rattle.evaluation.specs.Stages.{Room};
 ghost use Rattle.regular_blocks.specs.Checks.{regular};
 ghost use Rattle.regular_blocks.specs.Records.{mapOf, Accepted};
-ghost use Rattle.regular_blocks.specs.Block.{Room};
 use crate::grid::Grid;
 use crate::places::place_axes;
 use crate::rows::slope_axes;
@@ -32,7 +31,7 @@ pub fn values_block(
 ) -> usize
     requires { ⌜ Accepted grid × (length (now coeffs) ≡ size (take (grid .count) (grid .dims))) × (s .n ≤ length (now out)) ⌝ }
     requires { ⌜ Room (grid .count) (s .n) (s .from) (s .cap) (s .m) (length (now xs)) (length (now spots)) (length (now work)) ⌝ }
-    ensures { λ r. ⌜ Block (badAt (regular binary64 (mapOf grid) (now (coeffs .entry))) (now (xs .entry)) (s .n)) (valueStep (regular binary64 (mapOf grid) (now (coeffs .entry))) (now (xs .entry)) (s .n)) (s .from) (s .m) (now (out .entry)) r (now (out .exit)) ⌝ }
+    ensures { λ r. ⌜ ValueBlock (regular binary64 (mapOf grid) (now (coeffs .entry))) (now (xs .entry)) (s .n) (s .from) (s .m) (now (out .entry)) r (now (out .exit)) ⌝ }
 {
     let dims = grid.dims;
     let strides = grid.strides;
@@ -77,7 +76,7 @@ pub fn gradients_block(
 ) -> usize
     requires { ⌜ Accepted grid × (length (now coeffs) ≡ size (take (grid .count) (grid .dims))) × (grid .count * s .n ≤ length (now out)) ⌝ }
     requires { ⌜ Room (grid .count) (s .n) (s .from) (s .cap) (s .m) (length (now xs)) (length (now spots)) (length (now work)) × (4 * (s .cap * (4 + grid .count)) ≤ length (now work)) ⌝ }
-    ensures { λ r. ⌜ Block (badAt (regular binary64 (mapOf grid) (now (coeffs .entry))) (now (xs .entry)) (s .n)) (gradientStep (regular binary64 (mapOf grid) (now (coeffs .entry))) (now (xs .entry)) (s .n)) (s .from) (s .m) (now (out .entry)) r (now (out .exit)) ⌝ }
+    ensures { λ r. ⌜ GradientBlock (regular binary64 (mapOf grid) (now (coeffs .entry))) (now (xs .entry)) (s .n) (s .from) (s .m) (now (out .entry)) r (now (out .exit)) ⌝ }
 {
     let count = grid.count;
     let dims = grid.dims;

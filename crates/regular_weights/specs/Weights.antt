@@ -2,14 +2,14 @@
 -- order. Assumes nothing.
 --     t         how far the query lies past the point after the origin, in steps
 --     straight  whether the straight line from the end is taken
-use mathlib.Core.Bool.{Bool, false, cond}
+use mathlib.Core.Bool.{Bool, cond}
 use mathlib.Core.List.{List, [], _∷_}
 use lib.ListN.{getD}
 use lib.Ieee.{Float, nan, Format, add, sub, mul, div, neg}
 use Rattle.interp_math.specs.Sum.{mulAdd}
 use Rattle.multibspline.specs.Numbers.{f0, f1, f2, f3, f4, f6}
+use Rattle.multibspline.specs.Place.{byPlace}
 use Rattle.multibspline.specs.declared.saturation.Saturation.{Saturation}
-use Rattle.multibspline.specs.declared.saturation.Saturation.the-variants.{None, InsideLow, OutsideLow, InsideHigh, OutsideHigh}
 
 -- ---- the cardinal cubic B-spline on its four spans: (1 - 3t + 3t² - t³) / 6, (4 - 6t² + 3t³) / 6,
 -- (1 + 3t + 3t² - 3t³) / 6, t³ / 6
@@ -81,21 +81,16 @@ lowBoundaryWeightDerivatives f straight t = foldLow f (cond straight (lowLineari
 abbrev pub highBoundaryWeightDerivatives : Format → Bool → Float → List Float
 highBoundaryWeightDerivatives f straight t = foldHigh f (cond straight (highLinearizedBoundaryWeightDerivatives f) (cubicBsplineWeightDerivatives f t))
 
--- ---- by the place of the query and the axis's flag: a place inside is never extended in a straight line
+-- ---- by the place of the query and the axis's flag
 
 unfoldable pub interpWeights : Format → Bool → Saturation → Float → List Float
-interpWeights f linear None t = cubicBsplineWeights f t
-interpWeights f linear InsideLow t = lowBoundaryWeights f false (add f t f1)
-interpWeights f linear OutsideLow t = lowBoundaryWeights f linear (add f t f1)
-interpWeights f linear InsideHigh t = highBoundaryWeights f false (sub f t f1)
-interpWeights f linear OutsideHigh t = highBoundaryWeights f linear (sub f t f1)
+interpWeights f linear sat t =
+    byPlace linear (cubicBsplineWeights f t) (λ straight. lowBoundaryWeights f straight (add f t f1)) (λ straight. highBoundaryWeights f straight (sub f t f1)) sat
 
 unfoldable pub spanDerivatives : Format → Bool → Saturation → Float → List Float
-spanDerivatives f linear None t = cubicBsplineWeightDerivatives f t
-spanDerivatives f linear InsideLow t = lowBoundaryWeightDerivatives f false (add f t f1)
-spanDerivatives f linear OutsideLow t = lowBoundaryWeightDerivatives f linear (add f t f1)
-spanDerivatives f linear InsideHigh t = highBoundaryWeightDerivatives f false (sub f t f1)
-spanDerivatives f linear OutsideHigh t = highBoundaryWeightDerivatives f linear (sub f t f1)
+spanDerivatives f linear sat t =
+    byPlace linear (cubicBsplineWeightDerivatives f t) (λ straight. lowBoundaryWeightDerivatives f straight (add f t f1))
+    (λ straight. highBoundaryWeightDerivatives f straight (sub f t f1)) sat
 
 -- each times 1 / step
 unfoldable pub scaled : Format → Float → List Float → List Float

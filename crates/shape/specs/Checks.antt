@@ -26,21 +26,6 @@ unfoldable pub firstRefusal : List Check → ℕ
 firstRefusal [] = 0
 firstRefusal (c ∷ cs) = cond (c .fails) (c .number) (firstRefusal cs)
 
--- The order for every call that fits a map: each kind of check, by what it looks at. A call leaves the kinds that it has no
--- use for empty.
-pub record Checks : Type 0 where
-  pub shape : List Check
-  pub grid : List Check
-  pub coefs : List Check
-  pub ledger : List Check
-  pub knots : List Check
-  pub samples : List Check
-  pub scratch : List Check
-  pub line : List Check
-
-abbrev pub inOrder : Checks → List Check
-inOrder c = c .shape ++ (c .grid ++ (c .coefs ++ (c .ledger ++ (c .knots ++ (c .samples ++ (c .scratch ++ c .line))))))
-
 -- ---- the checks
 
 -- the most points that a map may have
@@ -75,19 +60,23 @@ scratchCheck dims scratch = refuse 4 (ltb scratch (2 * longest dims)) ∷ []
 unfoldable pub shapeAccepted : ℕ → List ℕ → Bool
 shapeAccepted count lens = eqb (firstRefusal (shapeChecks count lens)) 0
 
--- ---- the calls
+-- ---- the calls that fit a map, or a part of it
+
+-- buffers that are each to hold `wanted` elements
+abbrev pub lengthChecks : ℕ → List ℕ → List Check
+lengthChecks wanted [] = []
+lengthChecks wanted (given ∷ more) = lengthCheck wanted given ++ lengthChecks wanted more
+
+-- Their order: the shape; the joined grid; the coefficients; the ledger; the knots; the samples; scratch; the line. Of the grid, the
+-- knots and the line the checks are given, of the buffers the lengths; what a call has not is an empty list.
+abbrev pub fittingChecks : ℕ → List ℕ → List Check → List Check → ℕ → List ℕ → List ℕ → ℕ → List Check → List Check
+fittingChecks count lens grid knots coefs ledger samples scratch line =
+    let points = size (take count lens) in
+    shapeChecks count lens
+    ++ (grid
+    ++ (lengthCheck points coefs
+    ++ (lengthChecks points ledger ++ (knots ++ (lengthChecks points samples ++ (scratchCheck (take count lens) scratch ++ line))))))
 
 -- `coefficients` on a regular grid
 unfoldable pub regularFitChecks : ℕ → List ℕ → ℕ → ℕ → ℕ → List Check
-regularFitChecks count lens samples coefs scratch =
-    inOrder
-    (record {
-      shape = shapeChecks count lens;
-      grid = [];
-      coefs = lengthCheck (size (take count lens)) coefs;
-      ledger = [];
-      knots = [];
-      samples = lengthCheck (size (take count lens)) samples;
-      scratch = scratchCheck (take count lens) scratch;
-      line = [];
-    })
+regularFitChecks count lens samples coefs scratch = fittingChecks count lens [] [] coefs [] (samples ∷ []) scratch []

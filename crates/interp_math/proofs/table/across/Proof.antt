@@ -1,5 +1,5 @@
 use borrow.Author.Needs.{needs}
-use Rattle.interp_math.specs.Sum.{across}
+use Rattle.interp_math.specs.Table.{across}
 use Rattle.interp_math.proofs.table.across.Statement.{statement}
 use Rattle.interp_math.proofs.table.across.Tie as tie
 

@@ -1,6 +1,7 @@
 use mathlib.Core.Path.{refl}
 use borrow.Author.Needs.{needs}
-use Rattle.interp_math.specs.Sum.{summed, lanes}
+use Rattle.interp_math.specs.Sum.{summed}
+use Rattle.interp_math.specs.Table.{lanes}
 use Rattle.interp_math.proofs.table.neighbours.Statement.{statement}
 use Rattle.interp_math.proofs.table.neighbours.Tie as tie
 

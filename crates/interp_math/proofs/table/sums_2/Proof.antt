@@ -1,39 +1,46 @@
 use mathlib.Core.Path.{refl, _∙_}
-use mathlib.Core.List.{[], _∷_}
-use Prim.Native.Nat.{_+_, _*_, _-_, _≤_}
-use native.Mathlib.Nat.{mul-le-mul-right}
+use Prim.Native.Nat.{_+_, _*_, _-_}
 use native.Mathlib.Omega.{arith}
+use denote.Ref.{now}
+use lib.ListN.{getD}
 use lib.Ieee.{binary64}
 use borrow.Author.Needs.{needs}
-use Rattle.interp_math.specs.Sum.{lanes}
-use Rattle.interp_math.proofs.Tables.{RowsTo, rows-start, rows-next, lanes-on}
+use Rattle.interp_math.specs.Table.{lanes}
+use Rattle.interp_math.proofs.Tables.{near, RowsTo, rows-start, rows-next, lanes-up}
 use Rattle.interp_math.proofs.table.sums_2.Statement.{statement}
 use Rattle.interp_math.proofs.table.sums_2.Tie as tie
 
 abbrev Inv : tie.InvT-loop
-Inv coeffs s0 s1 w0 w1 at table₀ p₀ table p = RowsTo (λ k. lanes binary64 coeffs (s0 ∷ []) (w0 ∷ []) 1 (at + k * s1)) table p
+Inv coeffs strides weights at table₀ p₀ table p = RowsTo (λ k. lanes binary64 coeffs strides weights 1 (at + k * getD strides 1 0)) table p
 
 abbrev μ : tie.MeasureT-loop
-μ coeffs s0 s1 w0 w1 at table₀ p₀ table p = 4 - p
+μ coeffs strides weights at table₀ p₀ table p = 4 - p
 
--- the neighbours along the axis are at most three strides further
-near : (c : tie.In-loop Inv μ) → c .before .loop .p * c .before .before .before .args .s1 ≤ 3 * c .before .before .before .args .s1
-near c = mul-le-mul-right _ (omega (arith, c .loop-test .taken))
+mul-sums : tie.Need-mul-sums-1 Inv μ
+mul-sums c =
+    let start = c .before .before .before .before in
+    omega (arith, near (getD (now (start .args .strides)) 1 0) (c .before .loop-test .taken), start .pre, start .good)
+
+add-sums : tie.Need-add-sums-1 Inv μ
+add-sums c =
+    let start = c .before .before .before .before in
+    omega (arith, near (getD (now (start .args .strides)) 1 0) (c .before .loop-test .taken), start .pre, start .good)
+
+sums-requires : tie.Need-sums-1-requires Inv μ
+sums-requires c κs =
+    let start = c .before .before .before .before in
+    omega (arith, near (getD (now (start .args .strides)) 1 0) (c .before .loop-test .taken), start .pre)
+
+loop-again : tie.Need-loop-again Inv μ
+loop-again c = rows-next (c .before .before .before .loop .inv) (c .before .before .loop-test .taken) (c .sums-1 .ensures)
+
+returns : tie.Need-returns Inv μ
+returns c =
+    let t = c .before .before .before in
+    let a = t .before .before .before .args in
+    c .across .ensures ∙ lanes-up binary64 _ (now (a .strides)) (now (a .weights)) 1 (a .at) (t .before .loop .inv) (t .loop-test .left)
 
 pub sums-2-spec : {M : Type 1} → statement M
 sums-2-spec =
     tie.close
-    (tie.spec
-    Inv
-    μ
-    (λ c. rows-start refl)
-    (λ c. omega (arith, near c, c .before .before .before .pre, c .before .before .before .good))
-    (λ c. omega (arith, near c, c .before .before .before .pre, c .before .before .before .good))
-    (λ c κs. omega (arith, near c, c .before .before .before .pre))
-    (λ c. search needs)
-    (λ c. search needs)
-    (λ c. omega arith)
-    (λ c. omega arith)
-    (λ c. rows-next (c .before .before .loop .inv) (c .before .loop-test .taken) (c .sums-1 .ensures))
-    (λ c κs. search needs)
-    (λ c. c .across .ensures ∙ lanes-on binary64 _ (_ ∷ []) (_ ∷ []) _ _ 1 _ refl refl (c .before .before .before .loop .inv) (c .before .before .loop-test .left)))
+    (tie.spec Inv μ (λ c. rows-start refl) (λ c. search needs) mul-sums add-sums sums-requires (λ c. search needs) (λ c. search needs) (λ c. omega arith) (λ c. omega arith) loop-again (λ c. search needs) (λ c κs. search needs) returns)

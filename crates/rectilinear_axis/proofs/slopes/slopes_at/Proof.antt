@@ -19,16 +19,14 @@ within c =
 
 returns : tie.Need-returns
 returns c =
-    let l = c .before .before .before in
-    let s = l .before .before in
-    inner-slopes-are binary64 (now (s .args .knots)) _ _ (s .args .linear) (s .args .x) (l .loc-of .ensures) (s .pre .1) (c .before .before .if1 .taken) (ltb-true _ _ (c .before .if2 .taken)) (c .basis-span-weight-derivatives .ensures)
+    let s = c .before .before .before .before .before in
+    inner-slopes-are binary64 (now (s .args .knots)) _ _ (s .args .ends .linear) (s .args .x) (c .before .before .before .loc-of .ensures) (s .pre .1) (c .before .before .if1 .taken) (ltb-true _ _ (c .before .if2 .taken)) (c .basis-span-weight-derivatives .ensures)
 
 returns-2 : tie.Need-returns-2
 unfolding placeSlopes
 returns-2 c =
-    let l = c .before .before in
-    let s = l .before .before in
-    rw (place-is (now (s .args .knots)) (s .args .x) (l .loc-of .ensures) (s .pre .1)) at (c .interp-weight-derivatives .ensures)
+    let s = c .before .before .before .before in
+    rw (place-is (now (s .args .knots)) (s .args .x) (c .before .before .loc-of .ensures) (s .pre .1)) at (c .interp-weight-derivatives .ensures)
 
 pub slopes-at-spec : {M : Type 1} → statement M
 slopes-at-spec =

@@ -19,18 +19,22 @@ within c =
 
 returns : tie.Need-returns
 returns c =
-    let l = c .before .before .before in
-    let s = l .before .before in
-    inner-is binary64 (now (s .args .knots)) _ _ (s .args .linear) (s .args .x) (l .loc-of .ensures) (s .pre .1) (c .before .before .if1 .taken) (ltb-true _ _ (c .before .if2 .taken)) (c .inner-weights .ensures)
+    let s = c .before .before .before .before .before in
+    inner-is binary64 (now (s .args .knots)) _ _ (s .args .ends .linear) (s .args .x) (c .before .before .before .loc-of .ensures) (s .pre .1) (c .before .before .if1 .taken) (ltb-true _ _ (c .before .if2 .taken)) (c .inner-weights .ensures)
 
 returns-2 : tie.Need-returns-2
 unfolding placeWeights
 returns-2 c =
-    let l = c .before .before in
-    let s = l .before .before in
-    rw (place-is (now (s .args .knots)) (s .args .x) (l .loc-of .ensures) (s .pre .1)) at (c .interp-weights .ensures)
+    let s = c .before .before .before .before in
+    rw (place-is (now (s .args .knots)) (s .args .x) (c .before .before .loc-of .ensures) (s .pre .1)) at (c .interp-weights .ensures)
 
 pub weights-at-spec : {M : Type 1} → statement M
 weights-at-spec =
     tie.close
-    (tie.spec (λ c κs. search needs) (λ c. omega (arith, within (c .before))) (λ c κs. search needs) returns (λ c κs. (c .before .before .before .pre .0, within (c .before))) returns-2)
+    (tie.spec
+    (λ c κs. search needs)
+    (λ c. omega (arith, within (c .before)))
+    (λ c κs. search needs)
+    returns
+    (λ c κs. (c .before .before .before .pre .0, within (c .before)))
+    returns-2)

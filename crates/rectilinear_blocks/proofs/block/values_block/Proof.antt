@@ -1,37 +1,56 @@
+use mathlib.Core.Path.{refl, _∙_}
 use native.Mathlib.Omega.{arith}
 use denote.Ref.{now}
 use lib.Ieee.{binary64}
 use borrow.Author.Needs.{needs}
+use Rattle.evaluation.proofs.ByAxis.{entries-reach, block-values}
 use Rattle.evaluation.proofs.Entries.{last-stride}
-use Rattle.rectilinear_blocks.proofs.Figures.{ready, firsts-reach, block-values}
+use Rattle.evaluation.proofs.Stages.{room-as}
+use Rattle.rectilinear_blocks.specs.Records.{mapOf}
+use Rattle.rectilinear_blocks.proofs.Room.{roomy}
+use Rattle.rectilinear_blocks.proofs.Stages.{weights-are}
 use Rattle.rectilinear_blocks.proofs.block.values_block.Statement.{statement}
 use Rattle.rectilinear_blocks.proofs.block.values_block.Tie as tie
 
+place-axes-requires : tie.Need-place-axes-requires
+place-axes-requires c κs =
+    let z = c .before .before .before .zero-firsts in
+    let s = c .before .before .before .before .before .before .before .before .before .before .before .before in
+    let l = s .pre .1 in
+    ((s .pre .0 .0, l .block, l .batch, l .coordinates, omega (arith, l .in-spots, z .kept .1 .0)), z .ensures)
+
+weigh-axes-requires : tie.Need-weigh-axes-requires
+weigh-axes-requires c κs =
+    let g = c .before .before .before .before .place-axes in
+    let s = c .before .before .before .before .before .before .before .before .before .before .before .before .before .before .before .before .before in
+    ((s .pre .0 .0, room-as (g .kept .1 .1 .1 .1 .0 ∙ c .before .before .before .before .before .before .before .before .zero-firsts .kept .1 .0) refl (s .pre .1)), g .ensures)
+
 put-values-requires : tie.Need-put-values-requires
 put-values-requires c κs =
-    let w = c .before .before .before .before .before .before .before .before .before in
-    let s = w .before .before .before .before .before .before .before .before .before .before .before in
-    let a = s .args in
+    let v = c .before .before .before .before .before .before .weigh-axes in
+    let g = c .before .before .before .before .before .before .before .before .before .before .before .place-axes in
+    let s = c .before .before .before .before .before .before .before .before .before .before .before .before .before .before .before .before .before .before .before .before .before .before .before .before in
     let r = s .pre .0 .0 in
-    let u = r .gridded .shape in (
-      u .some-axis,
-      u .at-most-four,
-      last-stride (ready r),
-      s .pre .1 .0,
-      omega (arith, s .pre .1 .2, w .weigh-axes .kept .1 .1 .1 .1 .1 .1 .1 .1 .1 .1 .1 .1 .1 .0),
-      omega (arith, s .pre .1 .3, w .weigh-axes .kept .1 .1 .1 .1 .1 .1 .1 .1 .1 .1 .1 .1 .1 .1 .0),
-      s .pre .0 .3,
-      firsts-reach (a .count) (a .dims) (now (a .grid)) (now (a .coeffs)) (now (a .xs)) (a .n) (a .from) (a .m) (r .four) (record { gridded = r .gridded; sized = s .pre .0 .1 }) (r .strides-are) (w .weigh-axes .ensures .0),
-    )
+    let l = s .pre .1 in
+    let w = g .ensures .firsts in
+    (r .0 .shape .some-axis, r .0 .shape .at-most-four, last-stride (r .0), omega (arith, w .most, l .block), omega (arith, w .most, l .block, l .in-spots, g .kept .1 .1 .1 .1 .0, c .before .before .before .before .before .before .before .before .before .before .before .before .before .before .before .zero-firsts .kept .1 .0), omega (arith, l .in-work, v .kept .1 .1 .1 .1 .1 .1 .0), omega (arith, w .most, l .batch, s .pre .0 .2), entries-reach _ _ _ _ _ w (roomy binary64 _ _ (r .0 .four) (r .1)) (r .0 .strides-are) (s .pre .0 .1))
 
 returns : tie.Need-returns
 returns c =
-    let p = c .before .before in
-    let w = p .before .before .before .before .before .before .before .before .before .before in
-    let s = w .before .before .before .before .before .before .before .before .before .before .before in
+    let s = c .before .before .before .before .before .before .before .before .before .before .before .before .before .before .before .before .before .before .before .before .before .before .before .before .before .before .before in
     let a = s .args in
-    let r = s .pre .0 .0 in
-    block-values binary64 _ (now (a .grid)) (now (a .coeffs)) (now (a .xs)) (a .n) (a .from) (a .m) (r .gridded .shape .at-most-four) (r .strides-are) (w .weigh-axes .ensures .0) (w .weigh-axes .ensures .1) (p .put-values .ensures)
+    let r = s .pre .0 .0 .0 in
+    block-values _ _ _ _ _ (c .before .before .before .before .before .before .before .before .before .before .before .before .before .before .place-axes .ensures .firsts) binary64 _ (now (a .coeffs)) (r .strides-are) (r .shape .at-most-four) _ (weights-are binary64 (mapOf (a .map)) (now (a .grid)) (now (a .xs)) _ _ _ _ (c .before .before .before .before .before .before .before .before .before .weigh-axes .ensures)) (c .before .before .put-values .ensures)
 
 pub values-block-spec : {M : Type 1} → statement M
-values-block-spec = tie.close (tie.spec (λ c κs. search needs) put-values-requires (λ c. search needs) (λ c. search needs) (λ c. search needs) (λ c. search needs) returns)
+values-block-spec =
+    tie.close
+    (tie.spec
+    (λ c κs. search needs)
+    place-axes-requires
+    weigh-axes-requires
+    put-values-requires
+    (λ c. search needs)
+    (λ c. search needs)
+    (λ c. search needs)
+    returns)

@@ -3,7 +3,7 @@ use native.Mathlib.Omega.{arith}
 use denote.Ref.{now}
 use borrow.Author.Needs.{needs}
 use borrow.Author.Tests.{lt-ltb, le-ltb}
-use Rattle.rectilinear_blocks.proofs.Places.{four-knots}
+use Rattle.rectilinear_blocks.proofs.Room.{four-knots}
 use Rattle.rectilinear_map.proofs.build.low_on.Statement.{statement}
 use Rattle.rectilinear_map.proofs.build.low_on.Tie as tie
 

@@ -2,7 +2,7 @@ use native.Mathlib.Omega.{arith}
 use denote.Ref.{now}
 use mathlib.Core.Path.{_∙_}
 use borrow.Author.Needs.{needs}
-use Rattle.rectilinear_blocks.proofs.Places.{axis-sound}
+use Rattle.rectilinear_blocks.proofs.Room.{axis-sound}
 use Rattle.rectilinear_map.proofs.Checks.{told-sound}
 use Rattle.rectilinear_map.proofs.Placing.{grid-refused, grid-passed, placed-refused, placed-no-axis, placed-at}
 use Rattle.rectilinear_map.proofs.place.place.Statement.{statement}

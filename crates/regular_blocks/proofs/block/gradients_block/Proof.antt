@@ -8,7 +8,8 @@ use borrow.Author.Needs.{needs}
 use Rattle.evaluation.proofs.ByAxis.{entries-reach, block-gradients, block-slopes}
 use Rattle.evaluation.proofs.Entries.{last-stride}
 use Rattle.regular_blocks.proofs.Room.{roomy}
-use Rattle.regular_blocks.proofs.Stages.{room-spots, kept-on, weights-are, slopes-are, four-behind}
+use Rattle.evaluation.proofs.Stages.{room-as, four-behind}
+use Rattle.regular_blocks.proofs.Stages.{kept-on, weights-are, slopes-are}
 use Rattle.regular_blocks.proofs.block.gradients_block.Statement.{statement}
 use Rattle.regular_blocks.proofs.block.gradients_block.Tie as tie
 
@@ -16,7 +17,7 @@ place-axes-requires : tie.Need-place-axes-requires
 place-axes-requires c κs =
     let z = c .before .before .before .before .before .before .before .before .zero-firsts in
     let s = c .before .before .before .before .before .before .before .before .before .before .before .before .before .before .before .before .before .before .before in
-    ((s .pre .0 .0, room-spots (z .kept .1 .0) (s .pre .1 .0)), z .ensures)
+    ((s .pre .0 .0, room-as (z .kept .1 .0) refl (s .pre .1 .0)), z .ensures)
 
 slope-axes-requires : tie.Need-slope-axes-requires
 slope-axes-requires c κs =

@@ -1,3 +1,4 @@
+use mathlib.Core.Path.{refl}
 use native.Mathlib.Omega.{arith}
 use denote.Ref.{now}
 use lib.Ieee.{binary64}
@@ -5,7 +6,8 @@ use borrow.Author.Needs.{needs}
 use Rattle.evaluation.proofs.ByAxis.{entries-reach, block-values}
 use Rattle.evaluation.proofs.Entries.{last-stride}
 use Rattle.regular_blocks.proofs.Room.{roomy}
-use Rattle.regular_blocks.proofs.Stages.{room-spots, weights-are}
+use Rattle.evaluation.proofs.Stages.{room-as}
+use Rattle.regular_blocks.proofs.Stages.{weights-are}
 use Rattle.regular_blocks.proofs.block.values_block.Statement.{statement}
 use Rattle.regular_blocks.proofs.block.values_block.Tie as tie
 
@@ -13,7 +15,7 @@ place-axes-requires : tie.Need-place-axes-requires
 place-axes-requires c κs =
     let z = c .before .before .before .before .before .before .before .before .zero-firsts in
     let s = c .before .before .before .before .before .before .before .before .before .before .before .before .before .before .before .before .before .before .before in
-    ((s .pre .0 .0, room-spots (z .kept .1 .0) (s .pre .1)), z .ensures)
+    ((s .pre .0 .0, room-as (z .kept .1 .0) refl (s .pre .1)), z .ensures)
 
 weigh-axes-requires : tie.Need-weigh-axes-requires
 weigh-axes-requires c κs =

@@ -1,14 +1,16 @@
 use mathlib.Core.Path.{_≡_}
 use Prim.Native.Nat.{_+_, _*_, _-_, _≤_}
-use native.Mathlib.Nat.{mul-le-mul-left}
+use native.Mathlib.Nat.{mul-le-mul-left, mul-add}
 use native.Mathlib.Omega.{arith}
 use lib.Ieee.{binary64}
-use Rattle.regular_blocks.proofs.Stages.{Sloping, sloping-start, sloping-next, sloping-done}
+use Rattle.evaluation.proofs.Rows.{AxesSoFar, axes-begin, axes-next, axes-done}
+use Rattle.regular_blocks.specs.Block.{slopeRows}
+use Rattle.regular_blocks.proofs.Stages.{slopes-wait}
 use Rattle.regular_blocks.proofs.rows.slope_axes.Statement.{statement}
 use Rattle.regular_blocks.proofs.rows.slope_axes.Tie as tie
 
 abbrev Inv : tie.InvT-loop
-Inv count steps linear cap m spots work₀ a₀ work a = Sloping binary64 linear steps cap m count spots work₀ work a
+Inv count steps linear cap m spots work₀ a₀ work a = AxesSoFar (slopeRows binary64 linear steps cap spots work₀) cap (cap * 4) m count work₀ work a
 
 abbrev μ : tie.MeasureT-loop
 μ count steps linear cap m spots work₀ a₀ work a = count - a
@@ -43,14 +45,14 @@ put-slopes-requires c κs =
     let apart : cap * 4 + cap * t .before .loop .a ≡ cap * (4 + t .before .loop .a) = omega arith in
     let four = mul-le-mul-left cap (let q : t .before .loop .a + 1 ≤ 4 = omega (arith, t .loop-test .taken, s .pre .0) in q) in
     let behind = mul-le-mul-left cap (let q : 4 + t .before .loop .a + 1 ≤ 4 + s .args .count = omega (arith, t .loop-test .taken) in q) in
-    (omega (arith, below, s .pre .1, s .pre .2), omega (arith, four, apart, s .pre .1), omega (arith, behind, s .pre .1, s .pre .3, t .before .loop .inv .length-work))
+    (omega (arith, below, s .pre .1, s .pre .2), omega (arith, four, apart, s .pre .1), omega (arith, behind, s .pre .1, s .pre .3, t .before .loop .inv .length-rows))
 
 loop-again : tie.Need-loop-again Inv μ
 loop-again c =
     let p = c .before .before in
     let t = p .before .before .before in
     let s = t .before .before .before .before in
-    sloping-next binary64 _ _ _ _ _ _ _ (t .before .loop .inv) (t .loop-test .taken) (s .pre .0) (s .pre .1) (p .put-slopes .ensures) (p .put-slopes .kept .1 .1 .1 .1 .1 .1 .1 .0)
+    axes-next _ _ _ _ _ _ (t .before .loop .inv) (t .loop-test .taken) (s .pre .1) (mul-add (s .args .cap) 4 _) (slopes-wait binary64 _ _ _ _ _ _ _ (t .before .loop .inv) (t .loop-test .taken) (s .pre .0) (s .pre .1)) (p .put-slopes .ensures) (p .put-slopes .kept .1 .1 .1 .1 .1 .1 .1 .0)
 
 pub slope-axes-spec : {M : Type 1} → statement M
 slope-axes-spec =
@@ -58,7 +60,7 @@ slope-axes-spec =
     (tie.spec
     Inv
     μ
-    (λ c. sloping-start binary64 _ _ _ _ _ _ _)
+    (λ c. axes-begin _ _ _ _ _ _)
     (λ c. omega arith)
     in-four
     (λ c. omega arith)
@@ -70,5 +72,5 @@ slope-axes-spec =
     (λ c. omega arith)
     (λ c. omega arith)
     loop-again
-    (λ c. c .before .loop .inv .length-work)
-    (λ c. sloping-done binary64 _ _ _ _ _ _ _ (c .before .loop .inv) (c .loop-test .left)))
+    (λ c. c .before .loop .inv .length-rows)
+    (λ c. axes-done _ _ _ _ _ _ (c .before .loop .inv) (c .loop-test .left)))
