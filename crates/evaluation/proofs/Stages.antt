@@ -15,7 +15,7 @@ use Rattle.evaluation.specs.ByAxis.{ByAxis}
 use Rattle.evaluation.specs.Block.{rowAt, AxesPut, RowsTo}
 use Rattle.evaluation.specs.Stages.{Room, AxisRoom, PlacedBy}
 use Rattle.evaluation.proofs.Entries.{stride-at}
-use Rattle.evaluation.proofs.ByAxis.{Moved, firsts-start, firsts-next}
+use Rattle.evaluation.proofs.ByAxis.{Roomy, Moved, firsts-start, firsts-small, firsts-next}
 use Rattle.evaluation.proofs.Rows.{row-part}
 use Rattle.evaluation.proofs.Weighed.{block-inside, block-room}
 
@@ -66,6 +66,10 @@ module _ (map : ByAxis) (xs : List Float) (n start m : ℕ) where
   pub placing-start : {Kept : ℕ → ℕ → Type 0} {spots₀ : List ℕ} → ((k : ℕ) → k < m → getD spots₀ k 0 ≡ 0) → Placing Kept spots₀ spots₀ m 0
   placing-start zeros =
       record { most = omega arith; length-spots = refl; so-far = record { firsts = firsts-start map xs n start zeros; kept = λ b k h g. absurd (let q : ⊥ = omega arith in q) } }
+
+  -- no query yet has moved past the map
+  pub placing-small : Roomy map → {Kept : ℕ → ℕ → Type 0} {spots₀ spots : List ℕ} {good a : ℕ} → Placing Kept spots₀ spots good a → (k : ℕ) → k < good → getD spots k 0 ≤ mostPoints
+  placing-small r w = firsts-small map xs n start r (w .most) (w .so-far .firsts)
 
   pub placing-next : {Kept Kept′ : ℕ → ℕ → Type 0} {spots₀ spots spots′ : List ℕ} {a good r : ℕ} → Placing Kept spots₀ spots good a → a < map .count → Moved map xs n start a good r spots spots′ → ((k : ℕ) → k < r → Kept′ a k)
       → ((b k : ℕ) → b < a → k < r → Kept b k → Kept′ b k) → length spots′ ≡ length spots → Placing Kept′ spots₀ spots′ r (a + 1)

@@ -8,12 +8,11 @@ use native.Mathlib.Nat.{mul-le-mul-left}
 use native.Mathlib.Omega.{arith}
 use lib.ListN.{length, getD, take, drop}
 use lib.Ieee.{Float, nan, Format}
-use Rattle.shape.specs.Checks.{mostPoints}
 use Rattle.shape.specs.Shape.{stride}
 use Rattle.evaluation.specs.Axes.{query, Ready}
 use Rattle.evaluation.specs.Block.{rowAt, RowsPut, AxesPut, RowsTo}
 use Rattle.evaluation.proofs.Entries.{stride-at}
-use Rattle.evaluation.proofs.ByAxis.{Moved, firsts-small}
+use Rattle.evaluation.proofs.ByAxis.{Moved}
 use Rattle.evaluation.proofs.Rows.{rows-as}
 use Rattle.evaluation.proofs.Stages as stages
 use Rattle.evaluation.proofs.Stages.{Placing, rows-are, rows-behind}
@@ -21,9 +20,7 @@ use Rattle.evaluation.proofs.Weighed.{block-coordinate}
 use Rattle.rectilinear_axis.specs.Axis.{Places, Counted, placeWeights, placeSlopes, weightsAt, slopesAt}
 use Rattle.rectilinear_blocks.specs.Map.{RectilinearMap}
 use Rattle.rectilinear_blocks.specs.Eval.{knotsOn, locOn, weightsOn, slopesOn, rectilinearAxes}
-use Rattle.rectilinear_blocks.specs.Sound.{Gridded}
 use Rattle.rectilinear_blocks.specs.Block.{KeptIn, weightsFor, slopesFor}
-use Rattle.rectilinear_blocks.proofs.Room.{roomy}
 
 module _ (map : RectilinearMap) (grid xs : List Float) (n start : ℕ) (few : map .count ≤ 4) (a : ℕ) (h : a < map .count) where
   coordinate : (k : ℕ) → getD xs (a * n + start + k) nan ≡ getD (query (map .count) xs n (start + k)) a nan
@@ -70,9 +67,6 @@ module _ (map : RectilinearMap) (grid xs : List Float) (n start : ℕ) (few : ma
 
 module _ (f : Format) (map : RectilinearMap) (grid xs : List Float) (n start cap m : ℕ) (spots₀ : List ℕ) {spots : List ℕ} {good a : ℕ}
     (w : Placing (rectilinearAxes f map grid) xs n start m (KeptIn map grid xs n start cap spots) spots₀ spots good a) {ss : List ℕ} (r : Ready (map .count) (map .lens) ss) (h : a < map .count) where
-  pub placing-small : Gridded (map .count) (map .lens) grid → (k : ℕ) → k < good → getD spots k 0 ≤ mostPoints
-  placing-small g = firsts-small (rectilinearAxes f map grid) xs n start (roomy f map grid (r .four) g) (w .most) (w .so-far .firsts)
-
   pub placing-next : m ≤ cap → {good′ : ℕ} {spots′ : List ℕ} → Places (knotsOn (map .count) (map .lens) grid a) (getD ss a 0) xs (a * n + start) good (cap * (a + 1)) spots good′ spots′
       → length spots′ ≡ length spots → Placing (rectilinearAxes f map grid) xs n start m (KeptIn map grid xs n start cap spots′) spots₀ spots′ good′ (a + 1)
   placing-next few p e =

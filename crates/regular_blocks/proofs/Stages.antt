@@ -14,7 +14,7 @@ use Rattle.regular_weights.specs.declared.place.Loc.{Loc}
 use Rattle.evaluation.specs.Axes.{query, Ready}
 use Rattle.evaluation.specs.Block.{rowAt, AxesPut, RowsTo}
 use Rattle.evaluation.proofs.Entries.{stride-at}
-use Rattle.evaluation.proofs.ByAxis.{Moved, firsts-small}
+use Rattle.evaluation.proofs.ByAxis.{Moved}
 use Rattle.evaluation.proofs.Rows.{AxesSoFar, row-first}
 use Rattle.evaluation.proofs.Stages as stages
 use Rattle.evaluation.proofs.Stages.{axis-cells, Placing, rows-are, rows-behind}
@@ -23,7 +23,6 @@ use Rattle.regular_axis.specs.Axis.{Axis, Places, weightRow, slopeRow}
 use Rattle.regular_blocks.specs.Map.{RegularMap}
 use Rattle.regular_blocks.specs.Eval.{isUnrepresentable, locOn, weightsOn, slopesOn, regularAxes}
 use Rattle.regular_blocks.specs.Block.{KeptIn, PlacedTo, weightRows, slopeRows}
-use Rattle.regular_blocks.proofs.Room.{roomy}
 
 pub axis-ready : {count : ℕ} {lens ss : List ℕ} (a : ℕ) → Ready count lens ss → a < count → Axis (getD lens a 0) (getD ss a 0)
 axis-ready a r h = let s = axis-cells a r h in record { four = s .0; few = s .1; cells = s .2 }
@@ -63,9 +62,6 @@ module _ (f : Format) (map : RegularMap) (xs : List Float) (n start cap : ℕ) (
 
 module _ (f : Format) (map : RegularMap) (xs : List Float) (n start cap m : ℕ) (spots₀ : List ℕ) {spots : List ℕ} {work : List Float} {good a : ℕ}
     (w : Placing (regularAxes f map) xs n start m (KeptIn f map xs n start cap spots work) spots₀ spots good a) {ss : List ℕ} (r : Ready (map .count) (map .lens) ss) (h : a < map .count) where
-  pub placing-small : (k : ℕ) → k < good → getD spots k 0 ≤ 16777216
-  placing-small = firsts-small (regularAxes f map) xs n start (roomy f map (r .four) (r .shape)) (w .most) (w .so-far .firsts)
-
   pub placing-next : m ≤ cap → {good′ : ℕ} {spots′ : List ℕ} {work′ : List Float}
       → Places f (getD (map .lens) a 0) (getD (map .starts) a nan) (getD (map .steps) a nan) (getD ss a 0) xs (a * n + start) good (cap * (a + 1)) (cap * a) spots work good′ spots′ work′
       → length spots′ ≡ length spots → Placing (regularAxes f map) xs n start m (KeptIn f map xs n start cap spots′ work′) spots₀ spots′ good′ (a + 1)
@@ -91,22 +87,23 @@ slopes-wait f linear steps cap m count spots work₀ {work} {a} w h four few k l
 
 -- ---- rows, by what is kept
 
-module _ (f : Format) (map : RegularMap) (xs : List Float) (n start cap m good : ℕ) {spots : List ℕ} {work : List Float} (w : PlacedTo f map xs n start cap m (map .count) good spots work) where
-  -- what is kept stays where other rows are worked out, behind those of four axes
-  pub kept-on : {work′ : List Float} → good ≤ cap → map .count ≤ 4 → ((j : ℕ) → j < cap * 4 → rowAt work′ j ≡ rowAt work j) → PlacedTo f map xs n start cap m (map .count) good spots work′
-  kept-on {work′} few four same =
-      record {
-        firsts = w .firsts;
-        kept = λ b k h g.
-            let below : cap * suc b ≤ cap * 4 = mul-le-mul-left cap (let q : suc b ≤ 4 = omega arith in q) in
-            rw (row-first work′ work (cap * b + k) (same (cap * b + k) (omega (arith, below)))) (w .kept b k h g);
-      }
+-- what is kept stays where other rows are worked out, behind those of four axes
+pub kept-on : (f : Format) (map : RegularMap) (xs : List Float) (n start cap m good : ℕ) {spots : List ℕ} (work work′ : List Float) → PlacedTo f map xs n start cap m (map .count) good spots work → good ≤ cap → map .count ≤ 4
+    → ((j : ℕ) → j < cap * 4 → rowAt work′ j ≡ rowAt work j) → PlacedTo f map xs n start cap m (map .count) good spots work′
+kept-on f map xs n start cap m good work work′ w few four same =
+    record {
+      firsts = w .firsts;
+      kept = λ b k h g.
+          let below : cap * suc b ≤ cap * 4 = mul-le-mul-left cap (let q : suc b ≤ 4 = omega arith in q) in
+          rw (row-first work′ work (cap * b + k) (same (cap * b + k) (omega (arith, below)))) (w .kept b k h g);
+    }
 
+module _ (f : Format) (map : RegularMap) (xs : List Float) (n start cap m good : ℕ) {spots : List ℕ} {work : List Float} (w : PlacedTo f map xs n start cap m (map .count) good spots work) where
   pub weights-are : {work′ : List Float} → AxesPut (weightRows f (map .linear) cap spots work) cap 0 good (map .count) work work′ → RowsTo (weightsOn f map) (map .count) xs n start cap (map .count) good work′
   unfolding weightsOn weightRow
-  weights-are p = rows-are _ _ (map .count) xs n start cap good (λ b k h g. let q = w .kept b k h g in rw (q .place, ← q .past)) p
+  weights-are p = rows-are (weightRows f (map .linear) cap spots work) (weightsOn f map) (map .count) xs n start cap good (λ b k h g. let q = w .kept b k h g in rw (q .place, ← q .past)) p
 
   pub slopes-are : {work′ : List Float} (work″ : List Float) (behind : ℕ) → behind ≡ 16 * cap → AxesPut (slopeRows f (map .linear) (map .steps) cap spots work) cap (cap * 4) good (map .count) work work′
       → ((j : ℕ) → cap * 4 ≤ j → rowAt work″ j ≡ rowAt work′ j) → RowsTo (slopesOn f map) (map .count) xs n start cap (map .count) good (drop behind work″)
   unfolding slopesOn slopeRow
-  slopes-are work″ behind same p stood = rows-behind _ _ (map .count) xs n start cap good (λ b k h g. let q = w .kept b k h g in rw (q .place, ← q .past)) work″ behind same p stood
+  slopes-are work″ behind same p stood = rows-behind (slopeRows f (map .linear) (map .steps) cap spots work) (slopesOn f map) (map .count) xs n start cap good (λ b k h g. let q = w .kept b k h g in rw (q .place, ← q .past)) work″ behind same p stood

@@ -2,12 +2,13 @@ use Prim.Native.Nat.{_-_}
 use native.Mathlib.Nat.{mul-le-mul-left}
 use native.Mathlib.Omega.{arith}
 use lib.Ieee.{binary64}
-use Rattle.evaluation.proofs.Stages.{Placing, placing-start, placing-done}
+use Rattle.evaluation.proofs.Stages.{Placing, placing-start, placing-small, placing-done}
 use Rattle.evaluation.proofs.Weighed.{block-inside}
 use Rattle.rectilinear_blocks.specs.Eval.{rectilinearAxes}
 use Rattle.rectilinear_blocks.specs.Block.{KeptIn}
 use Rattle.rectilinear_blocks.specs.Records.{mapOf}
-use Rattle.rectilinear_blocks.proofs.Stages.{placing-small, placing-next}
+use Rattle.rectilinear_blocks.proofs.Room.{roomy}
+use Rattle.rectilinear_blocks.proofs.Stages.{placing-next}
 use Rattle.rectilinear_blocks.proofs.places.place_axes.Statement.{statement}
 use Rattle.rectilinear_blocks.proofs.places.place_axes.Tie as tie
 
@@ -24,7 +25,7 @@ place-next-requires c κs =
     let s = c .before .before .before .before .before .before .before in
     let r = s .pre .0 .0 in
     let most = w .so-far .firsts .most in (
-      (r, h, placing-small binary64 _ _ _ _ _ _ _ _ w (r .0) h (r .1)),
+      (r, h, placing-small _ _ _ _ _ (roomy binary64 _ _ (r .0 .four) (r .1)) w),
       (block-inside _ _ _ h (omega (arith, most, s .pre .0 .2)) (s .pre .0 .3), omega (arith, most, s .pre .0 .1), omega (arith, most, s .pre .0 .1, s .pre .0 .4, w .length-spots, mul-le-mul-left (s .args .s .cap) h)),
     )
 

@@ -82,7 +82,7 @@ returns-2 c =
     let r = s .pre .0 .0 in
     let few = r .shape .at-most-four in
     let w = g .ensures (s .args .grid .linear) in
-    block-gradients _ _ _ _ _ (w .firsts) binary64 _ (now (s .args .coeffs)) (r .strides-are) few _ _ (weights-are binary64 _ _ _ _ _ _ _ (kept-on binary64 _ _ _ _ _ _ _ w (omega (arith, w .firsts .most, s .pre .1 .0 .block)) few (d .ensures .before)) (v .ensures))
+    block-gradients _ _ _ _ _ (w .firsts) binary64 _ (now (s .args .coeffs)) (r .strides-are) few _ _ (weights-are binary64 _ _ _ _ _ _ _ (kept-on binary64 _ _ _ _ _ _ _ _ _ w (omega (arith, w .firsts .most, s .pre .1 .0 .block)) few (d .ensures .before)) (v .ensures))
     (slopes-are binary64 _ _ _ _ _ _ _ w _ _ refl (d .ensures) (λ j h. v .ensures .after j (four-behind (s .args .s .cap) few h))) (c .before .before .sum-gradients .ensures)
 
 pub gradients-block-spec : {M : Type 1} → statement M

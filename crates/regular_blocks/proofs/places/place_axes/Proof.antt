@@ -4,11 +4,12 @@ use Prim.Native.Nat.{_-_}
 use native.Mathlib.Omega.{arith}
 use lib.ListN.{length}
 use lib.Ieee.{binary64}
-use Rattle.evaluation.proofs.Stages.{axis-room, room-as, Placing, placing-start, placing-done}
+use Rattle.evaluation.proofs.Stages.{axis-room, room-as, Placing, placing-start, placing-small, placing-done}
 use Rattle.regular_blocks.specs.Map.{mapFrom}
 use Rattle.regular_blocks.specs.Eval.{regularAxes}
 use Rattle.regular_blocks.specs.Block.{KeptIn}
-use Rattle.regular_blocks.proofs.Stages.{axis-ready, placing-small, placing-next}
+use Rattle.regular_blocks.proofs.Room.{roomy}
+use Rattle.regular_blocks.proofs.Stages.{axis-ready, placing-next}
 use Rattle.regular_blocks.proofs.places.place_axes.Statement.{statement}
 use Rattle.regular_blocks.proofs.places.place_axes.Tie as tie
 
@@ -28,7 +29,7 @@ place-next-requires c κs =
     let w = t .before .loop .inv .0 true in
     let s = c .before .before .before .before .before .before .before in
     let r = s .pre .0 .0 in
-    ((omega (arith, h, r .shape .at-most-four), axis-ready _ r h, placing-small binary64 _ _ _ _ _ _ _ w r h), axis-room (room-as (w .length-spots) (t .before .loop .inv .1) (s .pre .0 .1)) _ _ h (w .so-far .firsts .most))
+    ((omega (arith, h, r .shape .at-most-four), axis-ready _ r h, placing-small _ _ _ _ _ (roomy binary64 _ (r .four) (r .shape)) w), axis-room (room-as (w .length-spots) (t .before .loop .inv .1) (s .pre .0 .1)) _ _ h (w .so-far .firsts .most))
 
 loop-again : tie.Need-loop-again Inv μ
 loop-again c =

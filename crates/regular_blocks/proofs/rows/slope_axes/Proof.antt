@@ -2,6 +2,7 @@ use mathlib.Core.Path.{_≡_}
 use Prim.Native.Nat.{_+_, _*_, _-_, _≤_}
 use native.Mathlib.Nat.{mul-le-mul-left, mul-add}
 use native.Mathlib.Omega.{arith}
+use denote.Ref.{now}
 use lib.Ieee.{binary64}
 use Rattle.evaluation.proofs.Rows.{AxesSoFar, axes-begin, axes-next, axes-done}
 use Rattle.regular_blocks.specs.Block.{slopeRows}
@@ -52,7 +53,8 @@ loop-again c =
     let p = c .before .before in
     let t = p .before .before .before in
     let s = t .before .before .before .before in
-    axes-next _ _ _ _ _ _ (t .before .loop .inv) (t .loop-test .taken) (s .pre .1) (mul-add (s .args .cap) 4 _) (slopes-wait binary64 _ _ _ _ _ _ _ (t .before .loop .inv) (t .loop-test .taken) (s .pre .0) (s .pre .1)) (p .put-slopes .ensures) (p .put-slopes .kept .1 .1 .1 .1 .1 .1 .1 .0)
+    let a = s .args in
+    axes-next _ _ _ _ _ _ (t .before .loop .inv) (t .loop-test .taken) (s .pre .1) (mul-add (a .cap) 4 _) (slopes-wait binary64 (a .linear) (now (a .steps)) (a .cap) (a .m) (a .count) (now (a .spots)) (now (a .work)) (t .before .loop .inv) (t .loop-test .taken) (s .pre .0) (s .pre .1)) (p .put-slopes .ensures) (p .put-slopes .kept .1 .1 .1 .1 .1 .1 .1 .0)
 
 pub slope-axes-spec : {M : Type 1} → statement M
 slope-axes-spec =
