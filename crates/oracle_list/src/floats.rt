@@ -63,6 +63,15 @@ pub fn put_bits(floats: &[f64], at: usize, cells: &mut [u64])
     }
 }
 
+// Puts the bits of x, and of so many steps more, into the cells.
+pub fn put_counting(first: f64, step: f64, cells: &mut [u64]) {
+    let mut x = first;
+    for i in 0..cells.len() {
+        cells[i] = bits_of(x);
+        x = x + step;
+    }
+}
+
 // Whether x is no further than the tolerance from y. A NaN is near nothing.
 fn is_near(tolerance: f64, x: f64, y: f64) -> bool
     ensures { λ r. ⌜ r ≡ isNear tolerance x y ⌝ }

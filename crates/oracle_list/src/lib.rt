@@ -21,6 +21,7 @@ pub use floats::float_at;
 pub use floats::floats_at;
 pub use floats::floats_of;
 pub use floats::put_bits;
+pub use floats::put_counting;
 pub use queries::Reply;
 pub use queries::query_agrees;
 pub use words::are_words;

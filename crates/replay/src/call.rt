@@ -5,6 +5,7 @@ use oracle_list::floats_at;
 use oracle_list::floats_of;
 use oracle_list::length_at;
 use oracle_list::put_bits;
+use oracle_list::put_counting;
 use oracle_run::shape_of;
 
 // The fit, on the shape of a record: kinds from 6 on are rectilinear. The number of its answer.
@@ -54,6 +55,14 @@ fn fit_cells(text: &[u8], c: usize, grid: &[f64], samples: &[f64], cells: &mut [
         &mut scratch[..w],
         cells,
     )
+}
+
+// What the calls of the list find in their buffers: coefficient cell i holds i + 0.5, and scratch cell i holds -i - 0.25.
+pub fn put_before(c: usize, cells: &mut [u64])
+    requires { ⌜ c ≤ length (now cells) ⌝ }
+{
+    put_counting(0.5, 1.0, &mut cells[..c]);
+    put_counting(-0.25, -1.0, &mut cells[c..]);
 }
 
 // The fit of a record.

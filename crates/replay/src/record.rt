@@ -2,6 +2,7 @@
 ghost use Prim.Native.Nat.{_≤_};
 ghost use lib.ListN.{length};
 use crate::call::fit;
+use crate::call::put_before;
 use oracle_list::filled;
 use oracle_list::length_at;
 use oracle_list::number_at;
@@ -18,14 +19,22 @@ fn is_fit_right(text: &[u8], first: usize, c: usize, before: &[u64], cells: &mut
     oracle_list::fit_agrees(text, answer, first, c, before, cells)
 }
 
-// The same in fresh cells.
+// The same in cells that are to hold what the list's calls find.
+fn is_right_in(text: &[u8], first: usize, c: usize, cells: &mut [u64]) -> bool
+    requires { ⌜ (first ≤ 8192) × (c ≤ length (now cells)) × (length (now cells) ≤ 3072) ⌝ }
+{
+    let n = cells.len();
+    put_before(c, cells);
+    let before = oracle_list::copy_of(cells);
+    is_fit_right(text, first, c, &before[..n], cells)
+}
+
 fn is_right(text: &[u8]) -> bool {
     let first = 13 + length_at(text, 7, 512) + length_at(text, 8, 2048);
     let c = length_at(text, 9, 2048);
     let end = c + length_at(text, 10, 512);
-    let before = filled();
     let mut cells = filled();
-    is_fit_right(text, first, c, &before[..end], &mut cells[..end])
+    is_right_in(text, first, c, &mut cells[..end])
 }
 
 // The counts of the program: fits, refused calls, published figures.
