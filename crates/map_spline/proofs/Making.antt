@@ -46,8 +46,11 @@ by-answer₂ : {A B C : Type 0} (t : Bool) (f : A → B → C) (a b : A) (c d : 
 by-answer₂ true f a b c d = refl
 by-answer₂ false f a b c d = refl
 
-module _ (linear : Bool) (count : ℕ) (lens : List ℕ) (row samples coefs scratch : List Float) (wanted : ℕ) (four : length lens ≡ 4)
+module _ (linear : Bool) (count : ℕ) (lens : List ℕ) (row samples coefs scratch : List Float) (wanted : ℕ)
     (l : Lent count lens wanted (length row) (length samples) (length coefs) (length scratch)) where
+  abbrev four : length lens ≡ 4
+  four = l .four
+
   ok : firstRefusal (shapeChecks count lens) ≡ 0
   ok = usable-accepted count lens four (l .shape)
 
@@ -132,12 +135,12 @@ module _ (linear : Bool) (count : ℕ) (lens : List ℕ) (row samples coefs scra
 
 lent-at : {count : ℕ} {lens : List ℕ} {wanted wanted′ row samples coefs scratch : ℕ} → wanted ≡ wanted′ → Lent count lens wanted row samples coefs scratch
     → Lent count lens wanted′ row samples coefs scratch
-lent-at e l = record { shape = l .shape; row-is = l .row-is ∙ e; samples-are = l .samples-are; coefs-are = l .coefs-are; scratch-room = l .scratch-room }
+lent-at e l = record { shape = l .shape; four = l .four; row-is = l .row-is ∙ e; samples-are = l .samples-are; coefs-are = l .coefs-are; scratch-room = l .scratch-room }
 
-module _ (line : FirstLine) (four : length (line .dims) ≡ 4) (row samples coefs : ℕ) (l : Lent (line .count) (line .dims) (rowLength (headOf line)) row samples coefs 1024) where
+module _ (line : FirstLine) (row samples coefs : ℕ) (l : Lent (line .count) (line .dims) (rowLength (headOf line)) row samples coefs 1024) where
   pub lent-regular : line .regular ≡ true → Lent (line .count) (line .dims) (2 * line .count) row samples coefs 1024
   unfolding rowLength
-  lent-regular t = lent-at (rw (t, axes-are (line .count) (line .dims) four (l .shape))) l
+  lent-regular t = lent-at (rw (t, axes-are (line .count) (line .dims) (l .four) (l .shape))) l
 
   pub lent-rectilinear : line .regular ≡ false → Lent (line .count) (line .dims) (total (take (line .count) (line .dims))) row samples coefs 1024
   unfolding rowLength

@@ -104,6 +104,7 @@ surfaceOf m row coefs =
 -- the shape is accepted, and the lengths of the buffers are right
 pub record Lent (count : ℕ) (lens : List ℕ) (wanted row samples coefs scratch : ℕ) : Type 0 where
   pub shape : Usable count lens
+  pub four : length lens ≡ 4
   pub row-is : row ≡ wanted
   pub samples-are : samples ≡ size (take count lens)
   pub coefs-are : coefs ≡ size (take count lens)

@@ -90,10 +90,10 @@ module _ (head : Head) (row samples coefs : List Float) (number : ℕ) (s : Surf
     map-run z new r t = rw (← f .answers, eq-eqb number 0 z, ← made-is f z) (Wrote-then w t)
 
 -- the axes of a map that is not refused are as many as line 1 says
-pub made-axes : (line : FirstLine) → length (line .dims) ≡ 4 → Shaped line → (row samples coefs : List Float) (number : ℕ) (s : Surface) → Makes (headOf line) row samples coefs number s → number ≡ 0
+pub made-axes : (line : FirstLine) → Shaped line → (row samples coefs : List Float) (number : ℕ) (s : Surface) → Makes (headOf line) row samples coefs number s → number ≡ 0
     → line .count ≡ s .spline .axes
-made-axes line four u row samples coefs number s f z =
-    sym (ap (λ (t : Surface). t .spline .axes) (made-is f z) ∙ axes-of (headOf line) row samples ∙ axes-are (line .count) (line .dims) four (u .usable))
+made-axes line u row samples coefs number s f z =
+    sym (ap (λ (t : Surface). t .spline .axes) (made-is f z) ∙ axes-of (headOf line) row samples ∙ axes-are (line .count) (line .dims) (u .four) (u .usable))
 
 -- ---- the shape
 
@@ -152,10 +152,10 @@ limit-usable line four e =
     go false false true x y w q = absurd (let z : ⊥ = omega (arith, q) in z)
     go false false false x y w q =
         let small : size (take count lens) ≤ 512 = ltb-false 512 (size (take count lens)) w in
-        record { usable = usable count lens four (rw (x, y, le-ltb mostPoints (size (take count lens)) (omega arith))); small = small }
+        record { four = four; usable = usable count lens four (rw (x, y, le-ltb mostPoints (size (take count lens)) (omega arith))); small = small }
 
 -- the floats of line 2, and the lengths that building the map wants
-module _ (line : FirstLine) (four : length (line .dims) ≡ 4) (shaped : Shaped line) where
+module _ (line : FirstLine) (shaped : Shaped line) where
   abbrev count : ℕ
   count = line .count
 
@@ -164,6 +164,9 @@ module _ (line : FirstLine) (four : length (line .dims) ≡ 4) (shaped : Shaped 
 
   abbrev u : Usable count lens
   u = shaped .usable
+
+  abbrev four : length lens ≡ 4
+  four = shaped .four
 
   row-is : (t : Bool) → line .regular ≡ t → rowLength (headOf line) ≡ cond t (2 * count) (total (take count lens))
   unfolding rowLength
@@ -188,6 +191,7 @@ module _ (line : FirstLine) (four : length (line .dims) ≡ 4) (shaped : Shaped 
       → Lent count lens (rowLength (headOf line)) row samples coefs 1024
   lent r s c = record {
     shape = u;
+    four = four;
     row-is = r;
     samples-are = s;
     coefs-are = c;

@@ -61,6 +61,7 @@ pub record Worked (input : List ℕ) (r : ℕ) (out : List ℕ) : Type 0 where
 -- the shape of line 1 is accepted, within the program's limit
 pub record Shaped (line : FirstLine) : Type 0 where
   pub usable : Usable (line .count) (line .dims)
+  pub four : length (line .dims) ≡ 4
   pub small : size (headOf line .dims) ≤ 512
 
 -- what is printed from line 2 on, for a shape of four lengths
