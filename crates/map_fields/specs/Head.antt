@@ -3,9 +3,9 @@ use mathlib.Core.Path.{_≡_}
 use mathlib.Core.Bool.{Bool, true, false, cond, _&&_, _||_}
 use mathlib.Core.List.{List, [], _∷_}
 use mathlib.Core.Option.{Option, none, some}
-use Prim.Native.Nat.{ℕ, _<_}
+use Prim.Native.Nat.{ℕ, _<_, _≤_}
 use lib.Dec.{eqb, ltb}
-use lib.ListN.{length}
+use lib.ListN.{length, take, getD}
 use lib.Seq.{sets}
 use Rattle.float_text.specs.Digits.{numberFrom}
 use Rattle.float_text.specs.declared.Pattern.{Pattern}
@@ -87,13 +87,17 @@ lengthsIn (kind ∷ []) = []
 lengthsIn (kind ∷ flag ∷ []) = []
 lengthsIn (kind ∷ flag ∷ count ∷ lengths) = decimalsOf lengths
 
--- line 1 was read, and the axis count kept with the lengths behind it, as many as there is room for
-pub record HeadRead (ps : List (List ℕ)) (old : List ℕ) (readable regular linear : Bool) (count : ℕ) (new : List ℕ) : Type 0 where
+-- the four numbers behind the first
+unfoldable pub fourOf : List ℕ → List ℕ
+fourOf numbers = getD numbers 1 0 ∷ getD numbers 2 0 ∷ getD numbers 3 0 ∷ getD numbers 4 0 ∷ []
+
+-- line 1 was read, with its axis count and the lengths of up to four axes
+pub record HeadRead (ps : List (List ℕ)) (readable regular linear : Bool) (count : ℕ) (dims : List ℕ) : Type 0 where
   pub head : headIn ps ≡ cond readable (some (record { regular = regular; linear = linear; dims = lengthsIn ps })) none
   pub axes : readable ≡ true → count ≡ length (lengthsIn ps)
-  pub kept : readable ≡ true → new ≡ sets old 0 (count ∷ lengthsIn ps)
+  pub kept : readable ≡ true → count ≤ 4 → take count dims ≡ lengthsIn ps
 
 -- the axis count and the lengths were read, behind a letter and a flag that say so
-abbrev pub LengthsRead : List (List ℕ) → Bool → Bool → List ℕ → Bool → Bool → Bool → ℕ → List ℕ → Type 0
-LengthsRead ps regular linear old readable regular′ linear′ count new =
-    (kind flag : List ℕ) → Lettered kind flag regular linear → HeadRead (kind ∷ flag ∷ ps) old readable regular′ linear′ count new
+abbrev pub LengthsRead : List (List ℕ) → Bool → Bool → Bool → Bool → Bool → ℕ → List ℕ → Type 0
+LengthsRead ps regular linear readable regular′ linear′ count dims =
+    (kind flag : List ℕ) → Lettered kind flag regular linear → HeadRead (kind ∷ flag ∷ ps) readable regular′ linear′ count dims

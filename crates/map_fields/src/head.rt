@@ -4,7 +4,7 @@ ghost use mathlib.Core.Bool.{_||_, false};
 ghost use Prim.Native.Nat.{_<_, _≤_, _+_, _-_};
 ghost use lib.ListN.{length, take, drop, set};
 ghost use Rattle.map_fields.specs.Fields.{fields};
-ghost use Rattle.map_fields.specs.Head.{decimalIn, isDecimal, orZero, isByte, Counted, LengthsRead, HeadRead};
+ghost use Rattle.map_fields.specs.Head.{decimalIn, isDecimal, orZero, isByte, fourOf, Counted, LengthsRead, HeadRead};
 use crate::rows::find;
 use float_text::Pattern;
 
@@ -111,11 +111,13 @@ fn either(a: bool, b: bool) -> bool
     b
 }
 
+// Line 1: the grid, the flag, the axis count and the first four lengths, zeros where there are fewer.
 pub struct FirstLine {
     pub readable: bool,
     pub regular: bool,
     pub linear: bool,
     pub count: usize,
+    pub dims: [usize; 4],
 }
 
 fn unreadable() -> FirstLine
@@ -126,21 +128,25 @@ fn unreadable() -> FirstLine
         regular: false,
         linear: false,
         count: 0,
+        dims: [0, 0, 0, 0],
     }
 }
 
-// The axis count and the lengths from a place on, once letter and flag are read.
-fn lengths(
-    line: &[u8],
-    from: usize,
-    regular: bool,
-    linear: bool,
-    numbers: &mut [usize],
-) -> FirstLine
-    requires { ⌜ (from ≤ length (now line)) × (0 < length (now numbers)) ⌝ }
-    ensures { λ r. ⌜ LengthsRead (fields (drop from (now (line .entry)))) regular linear (now (numbers .entry)) (r .readable) (r .regular) (r .linear) (r .count) (now (numbers .exit)) ⌝ }
+// The numbers behind the axis count.
+fn four_of(numbers: &[usize]) -> [usize; 4]
+    requires { ⌜ 5 ≤ length (now numbers) ⌝ }
+    ensures { λ r. ⌜ r ≡ fourOf (now (numbers .entry)) ⌝ }
 {
-    let run = decimals(line, from, numbers);
+    [numbers[1], numbers[2], numbers[3], numbers[4]]
+}
+
+// The axis count and the lengths from a place on, once letter and flag are read.
+fn lengths(line: &[u8], from: usize, regular: bool, linear: bool) -> FirstLine
+    requires { ⌜ from ≤ length (now line) ⌝ }
+    ensures { λ r. ⌜ LengthsRead (fields (drop from (now (line .entry)))) regular linear (r .readable) (r .regular) (r .linear) (r .count) (r .dims) ⌝ }
+{
+    let mut numbers = [0usize; 5];
+    let run = decimals(line, from, &mut numbers);
     if !run.ok {
         return unreadable();
     }
@@ -148,18 +154,19 @@ fn lengths(
     if run.count - 1 != count {
         return unreadable();
     }
+    let dims = four_of(&numbers);
     FirstLine {
         readable: true,
         regular: regular,
         linear: linear,
         count: count,
+        dims: dims,
     }
 }
 
-// Line 1: `numbers` is to hold the axis count and the lengths behind it.
-fn head_of(line: &[u8], numbers: &mut [usize]) -> FirstLine
-    requires { ⌜ 0 < length (now numbers) ⌝ }
-    ensures { λ r. ⌜ HeadRead (fields (now (line .entry))) (now (numbers .entry)) (r .readable) (r .regular) (r .linear) (r .count) (now (numbers .exit)) ⌝ }
+// Line 1, by itself.
+fn head_of(line: &[u8]) -> FirstLine
+    ensures { λ r. ⌜ HeadRead (fields (now (line .entry))) (r .readable) (r .regular) (r .linear) (r .count) (r .dims) ⌝ }
 {
     let e = find(line, 0, 44);
     if e == line.len() {
@@ -177,13 +184,13 @@ fn head_of(line: &[u8], numbers: &mut [usize]) -> FirstLine
     if !either(linear, byte_at(line, e + 1, f, 48)) {
         return unreadable();
     }
-    lengths(line, f + 1, regular, linear, numbers)
+    lengths(line, f + 1, regular, linear)
 }
 
 // Line 1 of a text, up to e.
-pub fn head_at(text: &[u8], e: usize, numbers: &mut [usize]) -> FirstLine
-    requires { ⌜ (e ≤ length (now text)) × (0 < length (now numbers)) ⌝ }
-    ensures { λ r. ⌜ HeadRead (fields (take e (now (text .entry)))) (now (numbers .entry)) (r .readable) (r .regular) (r .linear) (r .count) (now (numbers .exit)) ⌝ }
+pub fn head_at(text: &[u8], e: usize) -> FirstLine
+    requires { ⌜ e ≤ length (now text) ⌝ }
+    ensures { λ r. ⌜ HeadRead (fields (take e (now (text .entry)))) (r .readable) (r .regular) (r .linear) (r .count) (r .dims) ⌝ }
 {
-    head_of(&text[..e], numbers)
+    head_of(&text[..e])
 }

@@ -1,8 +1,9 @@
 // The map program: reads standard input, works, writes.
 ghost use mathlib.Core.Path.{_≡_};
 ghost use mathlib.Core.List.{_++_};
+ghost use Prim.Native.Nat.{_≤_};
 ghost use lib.ListN.{length, take};
-ghost use Rattle.map_work.specs.Steps.{Buffers, Worked};
+ghost use Rattle.map_work.specs.Steps.{Worked};
 ghost use Rattle.map_run.specs.Reading.{Got};
 use libc::STDIN_FILENO;
 use libc::STDOUT_FILENO;
@@ -38,35 +39,14 @@ struct Ran {
     printed: usize,
 }
 
-fn answer(
-    input: &mut [u8],
-    spare: &mut [u8],
-    numbers: &mut [usize],
-    row: &mut [f64],
-    samples: &mut [f64],
-    coeffs: &mut [f64],
-    scratch: &mut [f64],
-    x: &mut [f64],
-    out: &mut [u8],
-) -> Ran
-    requires { ⌜ length (now input) ≡ 32768 ⌝ }
-    requires { ⌜ Buffers (length (now numbers)) (length (now row)) (length (now samples)) (length (now coeffs)) (length (now scratch)) (length (now x)) (length (now out)) ⌝ }
+fn answer(input: &mut [u8], spare: &mut [u8], out: &mut [u8]) -> Ran
+    requires { ⌜ (length (now input) ≡ 32768) × (98440 ≤ length (now out)) ⌝ }
     ensures { λ r. ⌜ Worked (take (r .kept) (now (input .exit)) ++ take (r .spare) (now (spare .exit))) (r .printed) (now (out .exit)) ⌝ }
 {
     let bytes = read_input(input, spare);
     let kept = bytes.kept;
     let more = bytes.spare;
-    let n = map_work::work_on(
-        &input[..kept],
-        &spare[..more],
-        numbers,
-        row,
-        samples,
-        coeffs,
-        scratch,
-        x,
-        out,
-    );
+    let n = map_work::work_on(&input[..kept], &spare[..more], out);
     io::write_all(STDOUT_FILENO, &out[..n]);
     Ran {
         kept: kept,
@@ -75,26 +55,10 @@ fn answer(
     }
 }
 
-// The program, in buffers of its own.
+// The program, with its input and what it prints.
 pub fn run() {
     let mut input = [0u8; 32768];
     let mut spare = [0u8; 1];
-    let mut numbers = [0usize; 5];
-    let mut row = [0.0f64; 512];
-    let mut samples = [0.0f64; 512];
-    let mut coeffs = [0.0f64; 512];
-    let mut scratch = [0.0f64; 1024];
-    let mut x = [0.0f64; 4];
     let mut out = [0u8; 98440];
-    answer(
-        &mut input,
-        &mut spare,
-        &mut numbers,
-        &mut row,
-        &mut samples,
-        &mut coeffs,
-        &mut scratch,
-        &mut x,
-        &mut out,
-    );
+    answer(&mut input, &mut spare, &mut out);
 }

@@ -14,7 +14,8 @@ use Rattle.knots.specs.Joined.{allRise}
 use Rattle.regular_blocks.specs.Checks.{anyStepBad}
 use Rattle.regular_map.specs.Records as Regular
 use Rattle.rectilinear_map.specs.Records as Rectilinear
-use Rattle.map_spline.specs.Surface.{regularSurface, rectilinearSurface, regularNumber, rectilinearNumber, askedNumber, surfaceOf}
+use Rattle.map_fields.specs.Head.{Head}
+use Rattle.map_spline.specs.Surface.{regularSurface, rectilinearSurface, mapNumber, askedNumber, surfaceOf}
 use Rattle.map_spline.specs.declared.build.Map.{Map}
 
 -- ---- checks whose numbers are below a limit
@@ -43,8 +44,9 @@ first-below most (c ∷ cs) p h =
 pub shape-digit : (most count : ℕ) (dims : List ℕ) → firstRefusal (limitChecks most count dims) < 10
 shape-digit most count dims = first-below 10 (limitChecks most count dims) (lit< tt) refl
 
-pub map-digit : (regular : Bool) (dims : List ℕ) (row : List Float) → cond regular (regularNumber dims row) (rectilinearNumber dims row) < 10
-map-digit regular dims row = go regular (anyStepBad (drop (length dims) row)) (allRise row dims (length dims))
+pub map-digit : (h : Head) (row : List Float) → mapNumber h row < 10
+unfolding mapNumber
+map-digit h row = go (h .regular) (anyStepBad (drop (length (h .dims)) row)) (allRise row (h .dims) (length (h .dims)))
   where
     go : (t a b : Bool) → cond t (cond a 5 0) (cond b 0 5) < 10
     go true true b = lit< tt

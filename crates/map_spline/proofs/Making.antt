@@ -29,7 +29,12 @@ use Rattle.rectilinear.specs.Fit.{rectilinearFit, rectilinearFitChecks}
 use Rattle.rectilinear.proofs.FitChecks as RectilinearFit
 use Rattle.rectilinear_map.specs.Map as Rectilinear
 use Rattle.rectilinear_blocks.specs.Map.{RectilinearMap}
-use Rattle.map_spline.specs.Surface.{Surface, regularSurface, rectilinearSurface, regularOf, rectilinearOf, regularRefused, rectilinearRefused, regularNumber, rectilinearNumber, Lent, MadeFrom}
+use Rattle.regular_map.specs.Records as RegularRecord
+use Rattle.rectilinear_map.specs.Records as RectilinearRecord
+use Rattle.map_fields.specs.Records.{headOf}
+use Rattle.map_fields.specs.declared.head.FirstLine.{FirstLine}
+use Rattle.map_spline.specs.declared.build.Map.{Map}
+use Rattle.map_spline.specs.Surface.{Surface, regularSurface, rectilinearSurface, regularOf, rectilinearOf, regularRefused, rectilinearRefused, regularNumber, rectilinearNumber, rowLength, mapNumber, surface, refusedSurface, surfaceOf, Lent, MadeFrom, RegularMade, RectilinearMade, Makes}
 use Rattle.map_spline.proofs.Axes.{in-use, query-in-use, query-take}
 
 -- what is made of the one or the other
@@ -41,8 +46,11 @@ by-answer₂ : {A B C : Type 0} (t : Bool) (f : A → B → C) (a b : A) (c d : 
 by-answer₂ true f a b c d = refl
 by-answer₂ false f a b c d = refl
 
-module _ (linear : Bool) (count : ℕ) (lens : List ℕ) (row samples coefs scratch : List Float) (wanted : ℕ) (four : length lens ≡ 4)
+module _ (linear : Bool) (count : ℕ) (lens : List ℕ) (row samples coefs scratch : List Float) (wanted : ℕ)
     (l : Lent count lens wanted (length row) (length samples) (length coefs) (length scratch)) where
+  abbrev four : length lens ≡ 4
+  four = l .four
+
   ok : firstRefusal (shapeChecks count lens) ≡ 0
   ok = usable-accepted count lens four (l .shape)
 
@@ -125,13 +133,33 @@ module _ (linear : Bool) (count : ℕ) (lens : List ℕ) (row samples coefs scra
 
 -- ---- either grid
 
-pub lent-at : {count : ℕ} {lens : List ℕ} {wanted wanted′ row samples coefs scratch : ℕ} → wanted ≡ wanted′ → Lent count lens wanted row samples coefs scratch
+lent-at : {count : ℕ} {lens : List ℕ} {wanted wanted′ row samples coefs scratch : ℕ} → wanted ≡ wanted′ → Lent count lens wanted row samples coefs scratch
     → Lent count lens wanted′ row samples coefs scratch
-lent-at e l = record { shape = l .shape; row-is = l .row-is ∙ e; samples-are = l .samples-are; coefs-are = l .coefs-are; scratch-room = l .scratch-room }
+lent-at e l = record { shape = l .shape; four = l .four; row-is = l .row-is ∙ e; samples-are = l .samples-are; coefs-are = l .coefs-are; scratch-room = l .scratch-room }
 
-pub made-at : {expected expected′ : ℕ} {made made′ refused refused′ : Surface} {number number′ : ℕ} {s : Surface} → expected ≡ expected′ → made ≡ made′ → refused ≡ refused′ → number′ ≡ number
-    → MadeFrom expected made refused number s → MadeFrom expected′ made′ refused′ number′ s
-made-at e m f n h = record { answers = n ∙ h .answers ∙ e; map = rw (n, ← m, ← f) (h .map) }
+module _ (line : FirstLine) (row samples coefs : ℕ) (l : Lent (line .count) (line .dims) (rowLength (headOf line)) row samples coefs 1024) where
+  pub lent-regular : line .regular ≡ true → Lent (line .count) (line .dims) (2 * line .count) row samples coefs 1024
+  unfolding rowLength
+  lent-regular t = lent-at (rw (t, axes-are (line .count) (line .dims) (l .four) (l .shape))) l
+
+  pub lent-rectilinear : line .regular ≡ false → Lent (line .count) (line .dims) (total (take (line .count) (line .dims))) row samples coefs 1024
+  unfolding rowLength
+  lent-rectilinear t = lent-at (rw t) l
+
+module _ (line : FirstLine) (row samples coefs coefs′ : List Float) (number : ℕ) (m : Map) where
+  pub makes-regular : line .regular ≡ true → m .regular ≡ true → RegularMade (headOf line) row samples number (regularSurface binary64 (RegularRecord.mapOf (m .even)) coefs′)
+      → Makes (headOf line) row samples coefs number (surfaceOf m row coefs′)
+  unfolding mapNumber surface refusedSurface
+  makes-regular t u h = rw (t, u) h
+
+  pub makes-rectilinear : line .regular ≡ false → m .regular ≡ false → RectilinearMade (headOf line) row samples coefs number (rectilinearSurface binary64 (RectilinearRecord.mapOf (m .uneven)) row coefs′)
+      → Makes (headOf line) row samples coefs number (surfaceOf m row coefs′)
+  unfolding mapNumber surface refusedSurface
+  makes-rectilinear t u h = rw (t, u) h
+
+-- the number that is handed on is the answer's
+pub made-at : {expected : ℕ} {made refused : Surface} {number number′ : ℕ} {s : Surface} → number′ ≡ number → MadeFrom expected made refused number s → MadeFrom expected made refused number′ s
+made-at n h = record { answers = n ∙ h .answers; map = rw n (h .map) }
 
 -- a map that is not refused
 pub made-is : {expected : ℕ} {made refused : Surface} {number : ℕ} {s : Surface} → MadeFrom expected made refused number s → number ≡ 0 → s ≡ made

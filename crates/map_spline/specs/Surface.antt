@@ -74,6 +74,10 @@ mapNumber h row = cond (h .regular) (regularNumber (h .dims) row) (rectilinearNu
 unfoldable pub surface : Format → Head → List Float → List Float → Surface
 surface f h row samples = cond (h .regular) (regularOf f (h .linear) (h .dims) row samples) (rectilinearOf f (h .linear) (h .dims) row samples)
 
+-- what stands in the map's place where it is refused, in coefficients of which the fit may have written none
+unfoldable pub refusedSurface : Format → Head → List Float → List Float → List Float → Surface
+refusedSurface f h row samples coefs = cond (h .regular) (regularRefused f (h .dims) samples) (rectilinearRefused f row coefs)
+
 -- ---- a query: as many coordinates as there are axes
 
 -- its number, its value, and its gradient by axis
@@ -100,6 +104,7 @@ surfaceOf m row coefs =
 -- the shape is accepted, and the lengths of the buffers are right
 pub record Lent (count : ℕ) (lens : List ℕ) (wanted row samples coefs scratch : ℕ) : Type 0 where
   pub shape : Usable count lens
+  pub four : length lens ≡ 4
   pub row-is : row ≡ wanted
   pub samples-are : samples ≡ size (take count lens)
   pub coefs-are : coefs ≡ size (take count lens)
@@ -110,6 +115,18 @@ pub record Lent (count : ℕ) (lens : List ℕ) (wanted row samples coefs scratc
 pub record MadeFrom (expected : ℕ) (made refused : Surface) (number : ℕ) (s : Surface) : Type 0 where
   pub answers : number ≡ expected
   pub map : s ≡ cond (eqb number 0) made refused
+
+-- the map of the first three lines is, on a regular grid, on a rectilinear one, and on either
+abbrev pub RegularMade : Head → List Float → List Float → ℕ → Surface → Type 0
+RegularMade h row samples number s =
+    MadeFrom (regularNumber (h .dims) row) (regularOf binary64 (h .linear) (h .dims) row samples) (regularRefused binary64 (h .dims) samples) number s
+
+abbrev pub RectilinearMade : Head → List Float → List Float → List Float → ℕ → Surface → Type 0
+RectilinearMade h row samples coefs number s =
+    MadeFrom (rectilinearNumber (h .dims) row) (rectilinearOf binary64 (h .linear) (h .dims) row samples) (rectilinearRefused binary64 row coefs) number s
+
+abbrev pub Makes : Head → List Float → List Float → List Float → ℕ → Surface → Type 0
+Makes h row samples coefs number s = MadeFrom (mapNumber h row) (surface binary64 h row samples) (refusedSurface binary64 h row samples coefs) number s
 
 -- a query is asked; value and gradient are zeros where it is refused
 pub record Replied (s : Surface) (x : List Float) (number : ℕ) (value : Float) (outside : Bool) (parts : List Float) : Type 0 where

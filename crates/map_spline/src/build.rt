@@ -1,6 +1,6 @@
 // The map of the first three lines.
 ghost use mathlib.Core.Path.{_≡_};
-ghost use mathlib.Core.Bool.{cond};
+ghost use mathlib.Core.Bool.{true, false};
 ghost use Prim.Native.Nat.{_≤_, _*_};
 ghost use lib.ListN.{length, take, drop};
 ghost use lib.Ieee.{binary64};
@@ -9,7 +9,9 @@ ghost use Rattle.knots.specs.Joined.{total};
 ghost use Rattle.evaluation.specs.Axes.{query};
 ghost use Rattle.regular_map.specs.Records as Regular;
 ghost use Rattle.rectilinear_map.specs.Records as Rectilinear;
-ghost use Rattle.map_spline.specs.Surface.{regularSurface, rectilinearSurface, regularOf, rectilinearOf, regularRefused, rectilinearRefused, regularNumber, rectilinearNumber, surfaceOf, Lent, MadeFrom};
+ghost use Rattle.map_fields.specs.Records.{headOf};
+ghost use Rattle.map_spline.specs.Surface.{regularSurface, rectilinearSurface, rowLength, surfaceOf, Lent, RegularMade, RectilinearMade, Makes};
+use map_fields::FirstLine;
 use rectilinear_map::MultiBsplineRectilinear;
 use regular_map::MultiBsplineRegular;
 use shape::Shape;
@@ -44,17 +46,17 @@ fn steps_of(row: &[f64], count: usize) -> [f64; 4]
 }
 
 fn make_regular(
-    linear: bool,
-    count: usize,
-    dims: [usize; 4],
+    line: FirstLine,
     row: &[f64],
     samples: &[f64],
     coeffs: &mut [f64],
     scratch: &mut [f64],
 ) -> regular_map::Built
-    requires { ⌜ Lent count dims (2 * count) (length (now row)) (length (now samples)) (length (now coeffs)) (length (now scratch)) ⌝ }
-    ensures { λ r. ⌜ MadeFrom (regularNumber (take count dims) (now (row .entry))) (regularOf binary64 linear (take count dims) (now (row .entry)) (now (samples .entry))) (regularRefused binary64 (take count dims) (now (samples .entry))) (answerNumber (r .answer)) (regularSurface binary64 (Regular.mapOf (r .map)) (now (coeffs .exit))) ⌝ }
+    requires { ⌜ Lent (line .count) (line .dims) (2 * line .count) (length (now row)) (length (now samples)) (length (now coeffs)) (length (now scratch)) ⌝ }
+    ensures { λ r. ⌜ RegularMade (headOf line) (now (row .entry)) (now (samples .entry)) (answerNumber (r .answer)) (regularSurface binary64 (Regular.mapOf (r .map)) (now (coeffs .exit))) ⌝ }
 {
+    let count = line.count;
+    let dims = line.dims;
     let starts = starts_of(row, count);
     let steps = steps_of(row, count);
     MultiBsplineRegular::from_values_with_workspace(
@@ -64,62 +66,65 @@ fn make_regular(
         samples,
         coeffs,
         scratch,
-        linear,
+        line.linear,
     )
 }
 
 fn make_rectilinear(
-    linear: bool,
-    count: usize,
-    dims: [usize; 4],
+    line: FirstLine,
     row: &[f64],
     samples: &[f64],
     coeffs: &mut [f64],
     scratch: &mut [f64],
 ) -> rectilinear_map::Built
-    requires { ⌜ Lent count dims (total (take count dims)) (length (now row)) (length (now samples)) (length (now coeffs)) (length (now scratch)) ⌝ }
-    ensures { λ r. ⌜ MadeFrom (rectilinearNumber (take count dims) (now (row .entry))) (rectilinearOf binary64 linear (take count dims) (now (row .entry)) (now (samples .entry))) (rectilinearRefused binary64 (now (row .entry)) (now (coeffs .entry))) (answerNumber (r .answer)) (rectilinearSurface binary64 (Rectilinear.mapOf (r .map)) (now (row .entry)) (now (coeffs .exit))) ⌝ }
+    requires { ⌜ Lent (line .count) (line .dims) (total (take (line .count) (line .dims))) (length (now row)) (length (now samples)) (length (now coeffs)) (length (now scratch)) ⌝ }
+    ensures { λ r. ⌜ RectilinearMade (headOf line) (now (row .entry)) (now (samples .entry)) (now (coeffs .entry)) (answerNumber (r .answer)) (rectilinearSurface binary64 (Rectilinear.mapOf (r .map)) (now (row .entry)) (now (coeffs .exit))) ⌝ }
 {
+    let count = line.count;
+    let dims = line.dims;
     MultiBsplineRectilinear::from_values_with_workspace(
         Shape { count, dims },
         row,
         samples,
         coeffs,
         scratch,
-        linear,
+        line.linear,
     )
 }
 
-// Fits the samples and builds the map; the buffers have the lengths that the shape wants.
-pub fn make(
-    regular: bool,
-    linear: bool,
-    count: usize,
-    dims: [usize; 4],
-    row: &[f64],
-    samples: &[f64],
-    coeffs: &mut [f64],
-    scratch: &mut [f64],
-) -> Made
-    requires { ⌜ Lent count dims (cond regular (2 * count) (total (take count dims))) (length (now row)) (length (now samples)) (length (now coeffs)) (length (now scratch)) ⌝ }
-    ensures { λ r. ⌜ MadeFrom (cond regular (regularNumber (take count dims) (now (row .entry))) (rectilinearNumber (take count dims) (now (row .entry)))) (cond regular (regularOf binary64 linear (take count dims) (now (row .entry)) (now (samples .entry))) (rectilinearOf binary64 linear (take count dims) (now (row .entry)) (now (samples .entry)))) (cond regular (regularRefused binary64 (take count dims) (now (samples .entry))) (rectilinearRefused binary64 (now (row .entry)) (now (coeffs .entry)))) (r .number) (surfaceOf (r .map) (now (row .entry)) (now (coeffs .exit))) ⌝ }
+// Room for the lines of a map of up to 512 points. Its contract has the length alone, so that no proof above sees the zeros.
+fn workspace() -> [f64; 1024]
+    ensures { λ r. ⌜ 1024 ≡ length r ⌝ }
 {
-    if regular {
-        let built = make_regular(linear, count, dims, row, samples, coeffs, scratch);
-        let answer = built.answer;
-        let even = built.map;
-        let uneven = rectilinear_map::blank();
-        let map = Map {
-            regular: true,
-            even: even,
-            uneven: uneven,
-        };
-        return Made {
-            number: answer.number(),
-            map: map,
-        };
+    [0.0; 1024]
+}
+
+fn make_even(line: FirstLine, row: &[f64], samples: &[f64], coeffs: &mut [f64]) -> Made
+    requires { ⌜ Lent (line .count) (line .dims) (2 * line .count) (length (now row)) (length (now samples)) (length (now coeffs)) 1024 ⌝ }
+    ensures { λ r. ⌜ RegularMade (headOf line) (now (row .entry)) (now (samples .entry)) (r .number) (regularSurface binary64 (Regular.mapOf (r .map .even)) (now (coeffs .exit))) × (r .map .regular ≡ true) ⌝ }
+{
+    let mut scratch = workspace();
+    let built = make_regular(line, row, samples, coeffs, &mut scratch);
+    let answer = built.answer;
+    let even = built.map;
+    let uneven = rectilinear_map::blank();
+    let map = Map {
+        regular: true,
+        even: even,
+        uneven: uneven,
+    };
+    Made {
+        number: answer.number(),
+        map: map,
     }
-    let built = make_rectilinear(linear, count, dims, row, samples, coeffs, scratch);
+}
+
+fn make_uneven(line: FirstLine, row: &[f64], samples: &[f64], coeffs: &mut [f64]) -> Made
+    requires { ⌜ Lent (line .count) (line .dims) (total (take (line .count) (line .dims))) (length (now row)) (length (now samples)) (length (now coeffs)) 1024 ⌝ }
+    ensures { λ r. ⌜ RectilinearMade (headOf line) (now (row .entry)) (now (samples .entry)) (now (coeffs .entry)) (r .number) (rectilinearSurface binary64 (Rectilinear.mapOf (r .map .uneven)) (now (row .entry)) (now (coeffs .exit))) × (r .map .regular ≡ false) ⌝ }
+{
+    let mut scratch = workspace();
+    let built = make_rectilinear(line, row, samples, coeffs, &mut scratch);
     let answer = built.answer;
     let even = regular_map::blank();
     let uneven = built.map;
@@ -132,4 +137,15 @@ pub fn make(
         number: answer.number(),
         map: map,
     }
+}
+
+// Fits the samples and builds the map; the buffers have the lengths that the shape wants.
+pub fn make(line: FirstLine, row: &[f64], samples: &[f64], coeffs: &mut [f64]) -> Made
+    requires { ⌜ Lent (line .count) (line .dims) (rowLength (headOf line)) (length (now row)) (length (now samples)) (length (now coeffs)) 1024 ⌝ }
+    ensures { λ r. ⌜ Makes (headOf line) (now (row .entry)) (now (samples .entry)) (now (coeffs .entry)) (r .number) (surfaceOf (r .map) (now (row .entry)) (now (coeffs .exit))) ⌝ }
+{
+    if line.regular {
+        return make_even(line, row, samples, coeffs);
+    }
+    make_uneven(line, row, samples, coeffs)
 }

@@ -7,14 +7,12 @@ ghost use Rattle.multibspline.specs.Numbers.{f0};
 ghost use Rattle.evaluation.specs.Axes.{zeros};
 ghost use Rattle.regular_map.specs.Records as Regular;
 ghost use Rattle.rectilinear_map.specs.Records as Rectilinear;
-ghost use Rattle.rectilinear_blocks.specs.Records.{ghosts};
 ghost use Rattle.map_spline.specs.Surface.{regularSurface, rectilinearSurface, surfaceOf, Replied};
 use crate::build::Map;
 use crate::outside::rectilinear_outside;
 use crate::outside::regular_outside;
 use evaluation::Valued;
 use rectilinear_map::MultiBsplineRectilinear;
-use rectilinear_weights::Ghost;
 use regular_map::MultiBsplineRegular;
 use shape::Refusal;
 
@@ -37,24 +35,9 @@ fn refused(refusal: Refusal) -> Reply
     }
 }
 
-fn ask_regular(
-    count: usize,
-    dims: [usize; 4],
-    starts: [f64; 4],
-    steps: [f64; 4],
-    linear: bool,
-    coeffs: &[f64],
-    x: &[f64],
-) -> Reply
-    ensures { λ r. ⌜ Replied (regularSurface binary64 (record { count = count; lens = dims; starts = starts; steps = steps; linear = linear }) (now (coeffs .entry))) (now (x .entry)) (r .number) (r .value) (r .outside) (r .parts) ⌝ }
+fn ask_even(map: MultiBsplineRegular, coeffs: &[f64], x: &[f64]) -> Reply
+    ensures { λ r. ⌜ Replied (regularSurface binary64 (Regular.mapOf map) (now (coeffs .entry))) (now (x .entry)) (r .number) (r .value) (r .outside) (r .parts) ⌝ }
 {
-    let map = MultiBsplineRegular {
-        count: count,
-        dims: dims,
-        starts: starts,
-        steps: steps,
-        linearize_extrapolation: linear,
-    };
     let valued = map.interp_one(coeffs, x);
     match valued {
         Valued::Value(value) => {
@@ -72,25 +55,9 @@ fn ask_regular(
     }
 }
 
-fn ask_rectilinear(
-    count: usize,
-    dims: [usize; 4],
-    low: [Ghost; 4],
-    high: [Ghost; 4],
-    linear: bool,
-    grid: &[f64],
-    coeffs: &[f64],
-    x: &[f64],
-) -> Reply
-    ensures { λ r. ⌜ Replied (rectilinearSurface binary64 (record { count = count; lens = dims; low = ghosts low; high = ghosts high; linear = linear }) (now (grid .entry)) (now (coeffs .entry))) (now (x .entry)) (r .number) (r .value) (r .outside) (r .parts) ⌝ }
+fn ask_uneven(map: MultiBsplineRectilinear, grid: &[f64], coeffs: &[f64], x: &[f64]) -> Reply
+    ensures { λ r. ⌜ Replied (rectilinearSurface binary64 (Rectilinear.mapOf map) (now (grid .entry)) (now (coeffs .entry))) (now (x .entry)) (r .number) (r .value) (r .outside) (r .parts) ⌝ }
 {
-    let map = MultiBsplineRectilinear {
-        count: count,
-        dims: dims,
-        low_ghost_coeffs: low,
-        high_ghost_coeffs: high,
-        linearize_extrapolation: linear,
-    };
     let valued = map.interp_one(grid, coeffs, x);
     match valued {
         Valued::Value(value) => {
@@ -106,41 +73,6 @@ fn ask_rectilinear(
         }
         Valued::Refused(refusal) => refused(refusal),
     }
-}
-
-fn ask_even(map: MultiBsplineRegular, coeffs: &[f64], x: &[f64]) -> Reply
-    ensures { λ r. ⌜ Replied (regularSurface binary64 (Regular.mapOf map) (now (coeffs .entry))) (now (x .entry)) (r .number) (r .value) (r .outside) (r .parts) ⌝ }
-{
-    let dims = map.dims;
-    let starts = map.starts;
-    let steps = map.steps;
-    ask_regular(
-        map.count,
-        dims,
-        starts,
-        steps,
-        map.linearize_extrapolation,
-        coeffs,
-        x,
-    )
-}
-
-fn ask_uneven(map: MultiBsplineRectilinear, grid: &[f64], coeffs: &[f64], x: &[f64]) -> Reply
-    ensures { λ r. ⌜ Replied (rectilinearSurface binary64 (Rectilinear.mapOf map) (now (grid .entry)) (now (coeffs .entry))) (now (x .entry)) (r .number) (r .value) (r .outside) (r .parts) ⌝ }
-{
-    let dims = map.dims;
-    let low = map.low_ghost_coeffs;
-    let high = map.high_ghost_coeffs;
-    ask_rectilinear(
-        map.count,
-        dims,
-        low,
-        high,
-        map.linearize_extrapolation,
-        grid,
-        coeffs,
-        x,
-    )
 }
 
 // A query of a map on either grid.

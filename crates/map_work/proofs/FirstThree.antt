@@ -23,13 +23,16 @@ use Rattle.regular_map.specs.Map as Regular
 use Rattle.rectilinear_map.specs.Map as Rectilinear
 use Rattle.map_fields.specs.Fields.{lines, fields, before, rowIn, rest, given, RowRead}
 use Rattle.map_fields.specs.Head.{Head, headIn, lengthsIn, HeadRead}
+use Rattle.map_fields.specs.Records.{headOf}
+use Rattle.map_fields.specs.declared.head.FirstLine.{FirstLine}
 use Rattle.map_fields.proofs.Finding.{line-at}
 use Rattle.map_print.specs.Print.{Wrote, unreadableLine, mapLine}
 use Rattle.map_print.proofs.Printing.{Wrote-then, Wrote-as}
-use Rattle.map_spline.specs.Surface.{Surface, regularOf, rectilinearOf, regularNumber, rectilinearNumber, rowLength, mapNumber, surface, Lent, MadeFrom}
+use Rattle.map_spline.specs.Surface.{Surface, regularOf, rectilinearOf, rowLength, surface, Lent, Makes}
 use Rattle.map_spline.proofs.Making.{made-is}
+use Rattle.map_spline.proofs.Digits.{map-digit}
 use Rattle.map_work.specs.Program.{queries, fitted, third, second, shapeNumber, shaped, first, program}
-use Rattle.map_work.specs.Steps.{Ready, Kept, Worked, fourOf, fromShape}
+use Rattle.map_work.specs.Steps.{Ready, Kept, Worked, Shaped, fromShape}
 
 -- ---- line 2 and line 3
 
@@ -37,10 +40,13 @@ pub ready-next : {n at next axes out : ℕ} → Ready n at axes out 4 → at ≤
 ready-next h a e = record { short = h .short; on = e; some-axis = h .some-axis; at-most-four = h .at-most-four; room = omega (arith, h .room) }
 
 -- the axes of the map are those of line 1
-pub axes-of : (regular linear : Bool) (dims : List ℕ) (row samples : List Float) → cond regular (regularOf binary64 linear dims row samples) (rectilinearOf binary64 linear dims row samples) .spline .axes ≡ length dims
-unfolding Regular.made Rectilinear.made
-axes-of true linear dims row samples = refl
-axes-of false linear dims row samples = refl
+axes-of : (h : Head) (row samples : List Float) → surface binary64 h row samples .spline .axes ≡ length (h .dims)
+unfolding surface Regular.made Rectilinear.made
+axes-of h row samples = go (h .regular)
+  where
+    go : (t : Bool) → cond t (regularOf binary64 (h .linear) (h .dims) row samples) (rectilinearOf binary64 (h .linear) (h .dims) row samples) .spline .axes ≡ length (h .dims)
+    go true = refl
+    go false = refl
 
 module _ (input : List ℕ) (at n : ℕ) (ok : Bool) (next : ℕ) (got : List Float) (h : RowRead input at n ok next got) where
   was-read : ok ≡ true → rowIn n (lines (drop at input)) ≡ some got
@@ -49,33 +55,45 @@ module _ (input : List ℕ) (at n : ℕ) (ok : Bool) (next : ℕ) (got : List Fl
   unread : ok ≡ false → rowIn n (lines (drop at input)) ≡ none
   unread k = h .row ∙ ap (λ (b : Bool). given b got) k
 
-  module _ (regular linear : Bool) (dims : List ℕ) where
-    abbrev head : Head
-    head = record { regular = regular; linear = linear; dims = dims }
+  module _ (head : Head) (out new : List ℕ) (r : ℕ) where
+    pub row-unread : n ≡ rowLength head → ok ≡ false → Wrote out 0 (unreadableLine 2) new r → Wrote out 0 (second head (lines (drop at input))) new r
+    unfolding second
+    row-unread e k w = rw (← e, unread k) w
 
-    pub row-unread : (out new : List ℕ) (r : ℕ) → n ≡ cond regular (2 * length dims) (total dims) → ok ≡ false → Wrote out 0 (unreadableLine 2) new r → Wrote out 0 (second head (lines (drop at input))) new r
-    unfolding second rowLength
-    row-unread out new r e k w = rw (← e, unread k) w
+    pub row-read : n ≡ rowLength head → ok ≡ true → Wrote out 0 (third head got (lines (drop next input))) new r → Wrote out 0 (second head (lines (drop at input))) new r
+    unfolding second
+    row-read e k w = rw (← e, was-read k, h .after) w
 
-    pub row-read : n ≡ cond regular (2 * length dims) (total dims) → ok ≡ true → third head got (lines (drop next input)) ≡ second head (lines (drop at input))
-    unfolding second rowLength
-    row-read e k = rw (← e, was-read k, h .after)
-
-    module _ (row : List Float) (e : n ≡ size dims) where
-      pub samples-unread : (out new : List ℕ) (r : ℕ) → ok ≡ false → Wrote out 0 (unreadableLine 3) new r → Wrote out 0 (third head row (lines (drop at input))) new r
+    module _ (row : List Float) (e : n ≡ size (head .dims)) where
+      pub samples-unread : ok ≡ false → Wrote out 0 (unreadableLine 3) new r → Wrote out 0 (third head row (lines (drop at input))) new r
       unfolding third
-      samples-unread out new r k w = rw (← e, unread k) w
+      samples-unread k w = rw (← e, unread k) w
 
-      module _ (number : ℕ) (s refused : Surface)
-          (f : MadeFrom (cond regular (regularNumber dims row) (rectilinearNumber dims row)) (cond regular (regularOf binary64 linear dims row got) (rectilinearOf binary64 linear dims row got)) refused number s)
-          (k : ok ≡ true) (out mid : List ℕ) (o : ℕ) (w : Wrote out 0 (mapLine number) mid o) where
-        pub map-refused : (number ≡ 0 → ⊥) → Wrote out 0 (third head row (lines (drop at input))) mid o
-        unfolding third fitted mapNumber
-        map-refused z = rw (← e, was-read k, ← f .answers, ne-eqb number 0 z, append-nil (mapLine number)) w
+      pub samples-read : ok ≡ true → Wrote out 0 (fitted head row got (lines (drop next input))) new r → Wrote out 0 (third head row (lines (drop at input))) new r
+      unfolding third
+      samples-read k w = rw (← e, was-read k, h .after) w
 
-        pub map-run : number ≡ 0 → (new : List ℕ) (r : ℕ) → Wrote mid o (queries s 0 0 (lines (drop next input))) new r → Wrote out 0 (third head row (lines (drop at input))) new r
-        unfolding third fitted mapNumber surface
-        map-run z new r t = rw (← e, was-read k, ← f .answers, eq-eqb number 0 z, h .after, ← made-is f z) (Wrote-then w t)
+-- ---- the map
+
+module _ (head : Head) (row samples coefs : List Float) (number : ℕ) (s : Surface) (f : Makes head row samples coefs number s) where
+  -- M's number has one digit
+  pub number-digit : number < 10
+  number-digit = rw (f .answers) (map-digit head row)
+
+  module _ (ls : List (List ℕ)) (out mid : List ℕ) (o : ℕ) (w : Wrote out 0 (mapLine number) mid o) where
+    pub map-refused : (number ≡ 0 → ⊥) → Wrote out 0 (fitted head row samples ls) mid o
+    unfolding fitted
+    map-refused z = rw (← f .answers, ne-eqb number 0 z, append-nil (mapLine number)) w
+
+    pub map-run : number ≡ 0 → (new : List ℕ) (r : ℕ) → Wrote mid o (queries s 0 0 ls) new r → Wrote out 0 (fitted head row samples ls) new r
+    unfolding fitted
+    map-run z new r t = rw (← f .answers, eq-eqb number 0 z, ← made-is f z) (Wrote-then w t)
+
+-- the axes of a map that is not refused are as many as line 1 says
+pub made-axes : (line : FirstLine) → Shaped line → (row samples coefs : List Float) (number : ℕ) (s : Surface) → Makes (headOf line) row samples coefs number s → number ≡ 0
+    → line .count ≡ s .spline .axes
+made-axes line u row samples coefs number s f z =
+    sym (ap (λ (t : Surface). t .spline .axes) (made-is f z) ∙ axes-of (headOf line) row samples ∙ axes-are (line .count) (line .dims) (u .four) (u .usable))
 
 -- ---- the shape
 
@@ -116,46 +134,71 @@ module _ (count : ℕ) (lens : List ℕ) (n : ℕ) (e : n ≡ firstRefusal (shap
     limit-passed l = sym (passed false (le-ltb 512 (size (take count lens)) (rw (← many) l)))
 
 -- a shape that is not refused
-pub limit-usable : (count : ℕ) (lens : List ℕ) → length lens ≡ 4 → firstRefusal (limitChecks 512 count (take count lens)) ≡ 0 → Usable count lens × (size (take count lens) ≤ 512)
+pub limit-usable : (line : FirstLine) → length (line .dims) ≡ 4 → firstRefusal (limitChecks 512 (line .count) (headOf line .dims)) ≡ 0 → Shaped line
 unfolding firstRefusal
-limit-usable count lens four e =
+limit-usable line four e =
     go (eqb count 0 || ltb 4 count) (anyShort (take count lens)) (ltb 512 (size (take count lens))) refl refl refl e
   where
+    abbrev count : ℕ
+    count = line .count
+
+    abbrev lens : List ℕ
+    lens = line .dims
+
     go : (a b d : Bool) → eqb count 0 || ltb 4 count ≡ a → anyShort (take count lens) ≡ b → ltb 512 (size (take count lens)) ≡ d → _≡_ {A = ℕ} (cond a 1 (cond b 2 (cond d 3 0))) 0
-        → Usable count lens × (size (take count lens) ≤ 512)
+        → Shaped line
     go true b d x y w q = absurd (let z : ⊥ = omega (arith, q) in z)
     go false true d x y w q = absurd (let z : ⊥ = omega (arith, q) in z)
     go false false true x y w q = absurd (let z : ⊥ = omega (arith, q) in z)
     go false false false x y w q =
         let small : size (take count lens) ≤ 512 = ltb-false 512 (size (take count lens)) w in
-        (usable count lens four (rw (x, y, le-ltb mostPoints (size (take count lens)) (omega arith))), small)
+        record { four = four; usable = usable count lens four (rw (x, y, le-ltb mostPoints (size (take count lens)) (omega arith))); small = small }
 
--- the rows and scratch that such a shape needs
-module _ (count : ℕ) (lens : List ℕ) (four : length lens ≡ 4) (u : Usable count lens) (small : size (take count lens) ≤ 512) where
-  pub row-small : (regular : Bool) → cond regular (2 * count) (total (take count lens)) ≤ 512
-  row-small true = omega (arith, u .at-most-four)
-  row-small false =
-      let t = total-le-size (take count lens) (λ a h. let l : a < count = rw (axes-are count lens four u) at h in rw (points-are count lens four u a l) (u .four-points a l)) in
-      omega arith
+-- the floats of line 2, and the lengths that building the map wants
+module _ (line : FirstLine) (shaped : Shaped line) where
+  abbrev count : ℕ
+  count = line .count
 
-  pub scratch-small : 2 * longest (take count lens) ≤ 1024
-  scratch-small = omega (arith, longest-le (take count lens) (usable-not-empty count lens four u))
+  abbrev lens : List ℕ
+  lens = line .dims
+
+  abbrev u : Usable count lens
+  u = shaped .usable
+
+  abbrev four : length lens ≡ 4
+  four = shaped .four
+
+  row-is : (t : Bool) → line .regular ≡ t → rowLength (headOf line) ≡ cond t (2 * count) (total (take count lens))
+  unfolding rowLength
+  row-is t e = rw (e, axes-are count lens four u)
+
+  pub row-regular : line .regular ≡ true → 2 * count ≡ rowLength (headOf line)
+  row-regular t = sym (row-is true t)
+
+  pub row-rectilinear : line .regular ≡ false → total (take count lens) ≡ rowLength (headOf line)
+  row-rectilinear t = sym (row-is false t)
+
+  pub row-small : rowLength (headOf line) ≤ 512
+  row-small = go (line .regular) refl
+    where
+      go : (t : Bool) → line .regular ≡ t → rowLength (headOf line) ≤ 512
+      go true e = omega (arith, row-is true e, u .at-most-four)
+      go false e =
+          let t = total-le-size (take count lens) (λ a h. let l : a < count = rw (axes-are count lens four u) at h in rw (points-are count lens four u a l) (u .four-points a l)) in
+          omega (arith, row-is false e, t, shaped .small)
+
+  pub lent : {row samples coefs : ℕ} → row ≡ rowLength (headOf line) → samples ≡ size (headOf line .dims) → coefs ≡ size (headOf line .dims)
+      → Lent count lens (rowLength (headOf line)) row samples coefs 1024
+  lent r s c = record {
+    shape = u;
+    four = four;
+    row-is = r;
+    samples-are = s;
+    coefs-are = c;
+    scratch-room = omega (arith, longest-le (take count lens) (usable-not-empty count lens four u), shaped .small);
+  }
 
 -- ---- line 1
-
--- the lengths that were kept
-pub four-kept : (count : ℕ) (old ls new : List ℕ) → length old ≡ 5 → length ls ≤ 4 → new ≡ sets old 0 (count ∷ ls) → take (length ls) (fourOf new) ≡ ls
-unfolding fourOf
-four-kept count old ls new five few e = go ls few (e ∙ sets-eq (count ∷ ls) old 0 (omega arith))
-  where
-    go : (qs : List ℕ) → length qs ≤ 4 → new ≡ (count ∷ qs) ++ drop (0 + length (count ∷ qs)) old
-        → take (length qs) (getD new 1 0 ∷ getD new 2 0 ∷ getD new 3 0 ∷ getD new 4 0 ∷ []) ≡ qs
-    go [] l q = refl
-    go (a ∷ []) l q = rw q
-    go (a ∷ b ∷ []) l q = rw q
-    go (a ∷ b ∷ c ∷ []) l q = rw q
-    go (a ∷ b ∷ c ∷ d ∷ []) l q = rw q
-    go (a ∷ b ∷ c ∷ d ∷ f ∷ qs) l q = absurd (let z : ⊥ = omega arith in z)
 
 -- a shape of more than four axes is refused, whatever lengths were kept
 shape-is : (regular linear : Bool) (count : ℕ) (four ds : List ℕ) (ls : List (List ℕ)) → count ≡ length ds → (count ≤ 4 → take count four ≡ ds)
@@ -202,7 +245,7 @@ module _ (input spare : List ℕ) (k : Kept (length input) (length spare)) where
     empty-input out new r z w = worked out new r (no-line input out new r z w)
 
     module _ (n : length input ≡ 0 → ⊥) (e : ℕ) (g : e ≡ 0 + length (before 10 (drop 0 input)))
-        (old : List ℕ) (readable regular linear : Bool) (count : ℕ) (kept : List ℕ) (h : HeadRead (fields (take e input)) old readable regular linear count kept) (out new : List ℕ) (r : ℕ) where
+        (readable regular linear : Bool) (count : ℕ) (dims : List ℕ) (h : HeadRead (fields (take e input)) readable regular linear count dims) (out new : List ℕ) (r : ℕ) where
       lines-are : lines input ≡ take e input ∷ lines (drop (e + 1) input)
       lines-are = line-at input 0 e (pos-of-ne-zero n) g ∙ ap (λ (k : ℕ). take k input ∷ lines (drop (e + 1) input)) (let q : e - 0 ≡ e = omega arith in q)
 
@@ -210,14 +253,11 @@ module _ (input spare : List ℕ) (k : Kept (length input) (length spare)) where
       unfolding first
       bad-head b w = worked out new r (rw (lines-are, h .head, b) w)
 
-      pub good-head : readable ≡ true → length old ≡ 5
-          → Wrote out 0 (fromShape (record { regular = regular; linear = linear; dims = take count (fourOf kept) }) count (lines (drop (e + 1) input))) new r → Worked (input ++ spare) r new
+      pub good-head : readable ≡ true → Wrote out 0 (fromShape (record { regular = regular; linear = linear; dims = take count dims }) count (lines (drop (e + 1) input))) new r
+          → Worked (input ++ spare) r new
       unfolding first
-      good-head b five w =
-          let ls = lengthsIn (fields (take e input)) in
-          let c = h .axes b in
-          let same : count ≤ 4 → take count (fourOf kept) ≡ ls = λ few. ap (λ (k : ℕ). take k (fourOf kept)) c ∙ four-kept count old ls kept five (omega (arith, c)) (h .kept b) in
-          worked out new r (rw (lines-are, h .head, b) (Wrote-as (shape-is regular linear count (fourOf kept) ls (lines (drop (e + 1) input)) c same) w))
+      good-head b w =
+          worked out new r (rw (lines-are, h .head, b) (Wrote-as (shape-is regular linear count dims (lengthsIn (fields (take e input))) (lines (drop (e + 1) input)) (h .axes b) (h .kept b)) w))
 
 -- what is to be printed fits
 pub worked-fits : {input : List ℕ} {r : ℕ} {out : List ℕ} → Worked input r out → r ≤ length out
@@ -225,32 +265,28 @@ worked-fits {input} {r} {out} h =
     let n : r ≡ min r (length out) = h .count ∙ sym (ap length (h .text)) ∙ length-take r out in
     omega (arith, n, min-le-right r (length out))
 
--- ---- lengths that are kept from call to call
-
-module _ (regular : Bool) (count : ℕ) (lens : List ℕ) (n samples coefs scratch : ℕ) (four : length lens ≡ 4)
-    (l : Lent count lens (cond regular (2 * count) (total (take count lens))) n samples coefs scratch) where
-  pub axes-lent : length (take count lens) ≡ count
-  axes-lent = axes-are count lens four (l .shape)
-
-  pub row-wanted : n ≡ cond regular (2 * length (take count lens)) (total (take count lens))
-  row-wanted = l .row-is ∙ ap (λ (k : ℕ). cond regular (2 * k) (total (take count lens))) (sym axes-lent)
-
-pub lent-same : {count : ℕ} {lens : List ℕ} {wanted row row′ samples samples′ coefs scratch : ℕ} → row′ ≡ row → samples′ ≡ samples → Lent count lens wanted row samples coefs scratch
-    → Lent count lens wanted row′ samples′ coefs scratch
-lent-same e f l = record { shape = l .shape; row-is = e ∙ l .row-is; samples-are = f ∙ l .samples-are; coefs-are = l .coefs-are; scratch-room = l .scratch-room }
+-- ---- room that is kept from call to call
 
 length-mapLine : (n : ℕ) → length (mapLine n) ≡ 4
 unfolding mapLine
 length-mapLine n = refl
 
-pub ready-run : {n at next axes out out′ : ℕ} {old new : List ℕ} {o : ℕ} (number : ℕ) → Ready n at axes out 4 → at ≤ next → next ≤ n + 1 → out′ ≡ out → Wrote old 0 (mapLine number) new o
-    → Ready n next axes out′ o
-ready-run number h a e s w = record {
+pub ready-run : {n at axes out out′ : ℕ} {old new : List ℕ} {o : ℕ} (number : ℕ) → Ready n at axes out 4 → out′ ≡ out → Wrote old 0 (mapLine number) new o → Ready n at axes out′ o
+ready-run number h s w = record {
   short = h .short;
-  on = e;
+  on = h .on;
   some-axis = h .some-axis;
   at-most-four = h .at-most-four;
   room = omega (arith, h .room, w .place, length-mapLine number, s);
+}
+
+pub ready-first : {n at out : ℕ} (line : FirstLine) → Shaped line → n ≤ 32768 → 1 ≤ at → at ≤ n + 1 → 98440 ≤ out → Ready n at (line .count) out 4
+ready-first line u short some on room = record {
+  short = short;
+  on = on;
+  some-axis = u .usable .some-axis;
+  at-most-four = u .usable .at-most-four;
+  room = omega arith;
 }
 
 -- ---- the shape, as the code finds it

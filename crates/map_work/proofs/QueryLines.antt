@@ -52,16 +52,18 @@ answered s x out o number value outside parts place new e room a w = record {
     same false q = number-alone number value (askedValue s x) (take (length x) parts) (askedGradient s x) (eqb-false number 0 q)
 
 module _ (input : List ℕ) (at : ℕ) (s : Surface) (n : ℕ) (out : List ℕ) (o : ℕ) (ok : Bool) (next : ℕ) (x : List Float) (h : RowRead input at n ok next x) where
-  pub turned-ok : (outside : Bool) (new : List ℕ) (place : ℕ) → ok ≡ true → length x ≡ n → Answered s x out o outside place new → Turned input at s n out o true outside next place x new
+  pub turned-ok : (outside : Bool) (new : List ℕ) (place : ℕ) → ok ≡ true → length x ≡ n → Answered s x out o outside place new → Turned input at s n out o true outside next place new
   turned-ok outside new place t l a = record {
+    x = x;
     row = subst (λ (z : Bool). RowRead input at n z next x) t h;
     text = a .text;
     size = omega (arith, a .size, l);
     side = λ _. a .side;
   }
 
-  pub turned-bad : ok ≡ false → Turned input at s n out o false false next o x out
+  pub turned-bad : ok ≡ false → Turned input at s n out o false false next o out
   turned-bad t = record {
+    x = x;
     row = subst (λ (z : Bool). RowRead input at n z next x) t h;
     text = record { place = omega arith; text = sym (append-nil (take o out)) };
     size = omega arith;
@@ -93,7 +95,10 @@ pub Asking-start : (input : List ℕ) (from : ℕ) (s : Surface) (old : List ℕ
 Asking-start input from s old o = record { few = omega arith; part = omega arith; text = refl }
 
 module _ (input : List ℕ) (from : ℕ) (s : Surface) (old : List ℕ) (o : ℕ) (new : List ℕ) (at place asked outside : ℕ) (h : Asking input from s old o new at place asked outside) where
-  module _ (ok side : Bool) (next place′ : ℕ) (x : List Float) (new′ : List ℕ) (axes : ℕ) (same : axes ≡ s .spline .axes) (t : Turned input at s axes new place ok side next place′ x new′) where
+  module _ (ok side : Bool) (next place′ : ℕ) (new′ : List ℕ) (axes : ℕ) (same : axes ≡ s .spline .axes) (t : Turned input at s axes new place ok side next place′ new′) where
+    abbrev x : List Float
+    x = t .x
+
     row-is : rowIn (s .spline .axes) (lines (drop at input)) ≡ given ok x
     row-is = ap (λ (k : ℕ). rowIn k (lines (drop at input))) (sym same) ∙ t .row .row
 
@@ -123,19 +128,15 @@ module _ (input : List ℕ) (from : ℕ) (s : Surface) (old : List ℕ) (o : ℕ
   unfolding queries lines
   Asking-done l = subst (λ (z : List ℕ). take place new ++ queries s asked outside (lines z) ≡ take o old ++ queries s 0 0 (lines (drop from input))) (drop-of-length-le input l) (h .text)
 
-pub Ready-step : (input : List ℕ) (at : ℕ) (s : Surface) (axes ol place : ℕ) (new : List ℕ) (ok side : Bool) (next place′ : ℕ) (x : List Float) (new′ : List ℕ)
-    → Ready (length input) at axes ol place → Turned input at s axes new place ok side next place′ x new′ → ok ≡ true → Ready (length input) next axes ol place′
-Ready-step input at s axes ol place new ok side next place′ x new′ h t k = record {
+pub Ready-step : (input : List ℕ) (at : ℕ) (s : Surface) (axes ol place : ℕ) (new : List ℕ) (ok side : Bool) (next place′ : ℕ) (new′ : List ℕ)
+    → Ready (length input) at axes ol place → Turned input at s axes new place ok side next place′ new′ → ok ≡ true → Ready (length input) next axes ol place′
+Ready-step input at s axes ol place new ok side next place′ new′ h t k = record {
   short = h .short;
   on = t .row .end;
   some-axis = h .some-axis;
   at-most-four = h .at-most-four;
   room = omega (arith, h .room, h .some-axis, t .size, t .row .far k, t .row .end);
 }
-
-pub turned-at : {input : List ℕ} {at : ℕ} {s : Surface} {n m : ℕ} {out : List ℕ} {o : ℕ} {ok outside : Bool} {next place : ℕ} {x : List Float} {new : List ℕ} → n ≡ m
-    → Turned input at s n out o ok outside next place x new → Turned input at s m out o ok outside next place x new
-turned-at {input} {at} {s} {out = out} {o} {ok} {outside} {next} {place} {x} {new} e t = subst (λ (k : ℕ). Turned input at s k out o ok outside next place x new) e t
 
 -- ---- after the loop
 module _ (input : List ℕ) (at : ℕ) (s : Surface) (out : List ℕ) (o : ℕ) (ok : Bool) (asked outside place : ℕ) (new : List ℕ) (h : Ended input at s out o ok asked outside place new) (fits : o ≤ length out)

@@ -1,16 +1,20 @@
 -- What the functions of the map program promise each other. Assumes nothing.
 use mathlib.Core.Path.{_≡_}
 use mathlib.Core.Bool.{Bool, true, cond}
-use mathlib.Core.List.{List, [], _∷_, _++_}
+use mathlib.Core.List.{List, [], _++_}
 use lib.Dec.{eqb}
 use Prim.Native.Nat.{ℕ, _+_, _*_, _-_, _≤_, _<_}
-use lib.ListN.{length, take, drop, getD}
+use lib.ListN.{length, take, drop}
 use lib.Ieee.{Float}
 use Rattle.shape.specs.Checks.{firstRefusal, limitChecks}
 use Rattle.map_fields.specs.Fields.{lines, RowRead}
 use Rattle.map_print.specs.Print.{Wrote, unreadableLine, mapLine, totalLine}
 use Rattle.map_spline.specs.Surface.{Surface, askedOutside}
+use Rattle.shape.specs.Shape.{size}
+use Rattle.shape.specs.Usable.{Usable}
 use Rattle.map_fields.specs.Head.{Head}
+use Rattle.map_fields.specs.Records.{headOf}
+use Rattle.map_fields.specs.declared.head.FirstLine.{FirstLine}
 use Rattle.map_work.specs.Program.{answer, queries, second, program}
 
 -- of n bytes read up to `at`, with o bytes printed, the rest can be printed: a readable query line of k floats has at least
@@ -28,8 +32,9 @@ pub record Answered (s : Surface) (x : List Float) (out : List ℕ) (o : ℕ) (o
   pub size : place ≤ o + 21 + 17 * length x
   pub side : outside ≡ askedOutside s x
 
--- one query line
-pub record Turned (input : List ℕ) (at : ℕ) (s : Surface) (axes : ℕ) (out : List ℕ) (o : ℕ) (ok outside : Bool) (next place : ℕ) (x : List Float) (new : List ℕ) : Type 0 where
+-- one query line, of the floats x
+pub record Turned (input : List ℕ) (at : ℕ) (s : Surface) (axes : ℕ) (out : List ℕ) (o : ℕ) (ok outside : Bool) (next place : ℕ) (new : List ℕ) : Type 0 where
+  pub x : List Float
   pub row : RowRead input at axes ok next x
   pub text : Wrote out o (cond ok (answer s x) []) new place
   pub size : place ≤ o + 21 + 17 * axes
@@ -47,25 +52,17 @@ pub record Kept (input spare : ℕ) : Type 0 where
   pub most : input ≤ 32768
   pub full : 0 < spare → input ≡ 32768
 
--- the work on an input: r bytes at the front of `out` are to be printed. Free: `out` from r on, and all that the other buffers
--- hold; no buffer's length changes, and what a buffer held before shows nowhere
+-- the work on an input: r bytes at the front of `out` are to be printed. Free: `out` from r on; its length does not change, and
+-- what it held before shows nowhere
 pub record Worked (input : List ℕ) (r : ℕ) (out : List ℕ) : Type 0 where
   pub count : r ≡ length (program input)
   pub text : take r out ≡ program input
 
--- the buffers of the program
-pub record Buffers (numbers row samples coefs scratch x out : ℕ) : Type 0 where
-  pub counts : numbers ≡ 5
-  pub knots : 512 ≤ row
-  pub points : 512 ≤ samples
-  pub cells : 512 ≤ coefs
-  pub lines-room : 1024 ≤ scratch
-  pub axes : 4 ≤ x
-  pub room : 98440 ≤ out
-
--- the four lengths behind the axis count
-unfoldable pub fourOf : List ℕ → List ℕ
-fourOf numbers = getD numbers 1 0 ∷ getD numbers 2 0 ∷ getD numbers 3 0 ∷ getD numbers 4 0 ∷ []
+-- the shape of line 1 is accepted, within the program's limit
+pub record Shaped (line : FirstLine) : Type 0 where
+  pub usable : Usable (line .count) (line .dims)
+  pub four : length (line .dims) ≡ 4
+  pub small : size (headOf line .dims) ≤ 512
 
 -- what is printed from line 2 on, for a shape of four lengths
 abbrev pub fromShape : Head → ℕ → List (List ℕ) → List ℕ

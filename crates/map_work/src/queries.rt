@@ -47,23 +47,24 @@ struct Turn {
     place: usize,
 }
 
-// One query line: read, answered, printed.
+// One query line, on `count` axes: read, answered, printed.
 fn ask_one(
     input: &[u8],
     at: usize,
+    count: usize,
     map: Map,
     grid: &[f64],
     coeffs: &[f64],
-    x: &mut [f64],
     out: &mut [u8],
     o: usize,
 ) -> Turn
-    requires { ⌜ Ready (length (now input)) at (length (now x)) (length (now out)) o × (length (now x) ≡ surfaceOf map (now grid) (now coeffs) .spline .axes) ⌝ }
-    ensures { λ r. ⌜ Turned (now (input .entry)) at (surfaceOf map (now (grid .entry)) (now (coeffs .entry))) (length (now (x .entry))) (now (out .entry)) o (r .ok) (r .outside) (r .next) (r .place) (now (x .exit)) (now (out .exit)) ⌝ }
+    requires { ⌜ Ready (length (now input)) at count (length (now out)) o × (count ≡ surfaceOf map (now grid) (now coeffs) .spline .axes) ⌝ }
+    ensures { λ r. ⌜ Turned (now (input .entry)) at (surfaceOf map (now (grid .entry)) (now (coeffs .entry))) count (now (out .entry)) o (r .ok) (r .outside) (r .next) (r .place) (now (out .exit)) ⌝ }
 {
-    let row = map_fields::read_row(input, at, x);
+    let mut x = [0.0f64; 4];
+    let row = map_fields::read_row(input, at, &mut x[..count]);
     if row.ok {
-        let printed = answer(map, grid, coeffs, x, out, o);
+        let printed = answer(map, grid, coeffs, &x[..count], out, o);
         return Turn {
             ok: true,
             outside: printed.outside,
@@ -90,14 +91,14 @@ struct End {
 fn ask_all(
     input: &[u8],
     from: usize,
+    count: usize,
     map: Map,
     grid: &[f64],
     coeffs: &[f64],
-    x: &mut [f64],
     out: &mut [u8],
     o: usize,
 ) -> End
-    requires { ⌜ Ready (length (now input)) from (length (now x)) (length (now out)) o × (length (now x) ≡ surfaceOf map (now grid) (now coeffs) .spline .axes) ⌝ }
+    requires { ⌜ Ready (length (now input)) from count (length (now out)) o × (count ≡ surfaceOf map (now grid) (now coeffs) .spline .axes) ⌝ }
     ensures { λ r. ⌜ Ended (now (input .entry)) from (surfaceOf map (now (grid .entry)) (now (coeffs .entry))) (now (out .entry)) o (r .ok) (r .asked) (r .outside) (r .place) (now (out .exit)) ⌝ }
 {
     let mut at = from;
@@ -105,7 +106,7 @@ fn ask_all(
     let mut asked: u64 = 0;
     let mut outside: u64 = 0;
     while at < input.len() {
-        let t = ask_one(input, at, map, grid, coeffs, x, out, place);
+        let t = ask_one(input, at, count, map, grid, coeffs, out, place);
         if t.ok {
             place = t.place;
             at = t.next;
@@ -132,17 +133,17 @@ fn ask_all(
 pub fn run(
     input: &[u8],
     at: usize,
+    count: usize,
     map: Map,
     grid: &[f64],
     coeffs: &[f64],
-    x: &mut [f64],
     out: &mut [u8],
     o: usize,
 ) -> usize
-    requires { ⌜ Ready (length (now input)) at (length (now x)) (length (now out)) o × (length (now x) ≡ surfaceOf map (now grid) (now coeffs) .spline .axes) ⌝ }
+    requires { ⌜ Ready (length (now input)) at count (length (now out)) o × (count ≡ surfaceOf map (now grid) (now coeffs) .spline .axes) ⌝ }
     ensures { λ r. ⌜ Wrote (now (out .entry)) o (queries (surfaceOf map (now (grid .entry)) (now (coeffs .entry))) 0 0 (lines (drop at (now (input .entry))))) (now (out .exit)) r ⌝ }
 {
-    let e = ask_all(input, at, map, grid, coeffs, x, out, o);
+    let e = ask_all(input, at, count, map, grid, coeffs, out, o);
     if e.ok {
         return map_print::put_totals(out, e.place, e.asked, e.outside);
     }

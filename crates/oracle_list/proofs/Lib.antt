@@ -1,4 +1,3 @@
 pub mod Alike
-pub mod CellLaws
 pub mod Turns
 pub mod WordLaws

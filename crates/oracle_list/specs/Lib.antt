@@ -1,3 +1,6 @@
 pub mod Words
-pub mod Cells
+pub mod Near
 pub mod Agree
+pub mod Fits
+pub mod Batches
+pub mod Queries

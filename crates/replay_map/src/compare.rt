@@ -6,30 +6,14 @@ ghost use lib.ListN.{length};
 ghost use Rattle.map_work.specs.Program.{program};
 ghost use Rattle.map_work.specs.Steps.{Kept};
 
-// The work on an input, in fresh buffers of the lengths that the program has.
+// The work on an input.
 fn is_printed_for(input: &[u8], spare: &[u8], expected: &[u8]) -> bool
     requires { ⌜ Kept (length (now input)) (length (now spare)) ⌝ }
     ensures { λ r. ⌜ (r ≡ true → program (now (input .entry) ++ now (spare .entry)) ≡ now (expected .entry)) ⌝ }
 {
-    let mut numbers = [0usize; 5];
-    let mut row = [0.0f64; 512];
-    let mut samples = [0.0f64; 512];
-    let mut coeffs = [0.0f64; 512];
-    let mut scratch = [0.0f64; 1024];
-    let mut x = [0.0f64; 4];
     let mut out = [0u8; 98440];
-    let n = map_work::work_on(
-        input,
-        spare,
-        &mut numbers,
-        &mut row,
-        &mut samples,
-        &mut coeffs,
-        &mut scratch,
-        &mut x,
-        &mut out,
-    );
-    oracle_match::is_text(&out, n, expected)
+    let n = map_work::work_on(input, spare, &mut out);
+    oracle_list::is_text(&out, n, expected)
 }
 
 // Whether the program prints what is expected, for an input of any length: it keeps the first 32,768 bytes of a longer one, and a

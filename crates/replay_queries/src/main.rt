@@ -3,7 +3,6 @@
 // README describes it.
 mod batch;
 mod map;
-mod ones;
 mod record;
 
 use oracle_run::Outcome;

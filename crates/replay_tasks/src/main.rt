@@ -4,7 +4,6 @@
 mod call;
 mod record;
 mod run;
-mod steps;
 
 use oracle_run::Outcome;
 use oracle_run::Tally;

@@ -13,11 +13,8 @@ slice-aggregate-head-of c = simp length-take (omega arith)
 head-of-requires : tie.Need-head-of-requires
 head-of-requires c κs = search needs
 
-same-length : tie.Need-same-length
-same-length c = search needs
-
 returns : tie.Need-returns
 returns c = search needs
 
 pub head-at-spec : {M : Type 1} → statement M
-head-at-spec = tie.close (tie.spec slice-aggregate-head-of head-of-requires same-length returns)
+head-at-spec = tie.close (tie.spec slice-aggregate-head-of head-of-requires returns)

@@ -18,7 +18,7 @@ unreadable-requires : tie.Need-unreadable-requires
 unreadable-requires c κs = search needs
 
 returns : tie.Need-returns
-returns c = head-none _ _ _ _ _ _ _ (head-one _ _ (c .before .before .find .ensures .0) (c .before .if1 .taken)) (c .unreadable .ensures)
+returns c = head-none _ _ _ _ _ _ (head-one _ _ (c .before .before .find .ensures .0) (c .before .if1 .taken)) (c .unreadable .ensures)
 
 add-find : tie.Need-add-find
 add-find c = search needs
@@ -30,7 +30,7 @@ unreadable-requires-2 : tie.Need-unreadable-requires-2
 unreadable-requires-2 c κs = search needs
 
 returns-2 : tie.Need-returns-2
-returns-2 c = head-none _ _ _ _ _ _ _ (head-two _ _ (c .before .before .before .before .find .ensures .0) (c .before .before .before .before .find .ensures .1) (c .before .before .before .if1 .left) _ (c .before .before .find2 .ensures .0) (c .before .if2 .taken)) (c .unreadable2 .ensures)
+returns-2 c = head-none _ _ _ _ _ _ (head-two _ _ (c .before .before .before .before .find .ensures .0) (c .before .before .before .before .find .ensures .1) (c .before .before .before .if1 .left) _ (c .before .before .find2 .ensures .0) (c .before .if2 .taken)) (c .unreadable2 .ensures)
 
 byte-at-requires : tie.Need-byte-at-requires
 byte-at-requires c κs = search needs
@@ -51,7 +51,7 @@ unreadable-requires-3 : tie.Need-unreadable-requires-3
 unreadable-requires-3 c κs = search needs
 
 returns-3 : tie.Need-returns-3
-returns-3 c = head-none _ _ _ _ _ _ _ (head-kind _ _ (c .before .before .before .before .before .before .before .before .before .find .ensures .0) (c .before .before .before .before .before .before .before .before .before .find .ensures .1) (c .before .before .before .before .before .before .before .before .if1 .left) _ (c .before .before .before .before .before .before .before .find2 .ensures .0) (c .before .before .before .before .before .before .before .find2 .ensures .1) (c .before .before .before .before .before .before .if2 .left) (tested _ _ _ _ _ _ (c .before .before .before .before .before .byte-at .ensures) (c .before .before .before .byte-at3 .ensures) (c .before .before .either .ensures) (not-true _ (c .before .if3 .taken)))) (c .unreadable3 .ensures)
+returns-3 c = head-none _ _ _ _ _ _ (head-kind _ _ (c .before .before .before .before .before .before .before .before .before .find .ensures .0) (c .before .before .before .before .before .before .before .before .before .find .ensures .1) (c .before .before .before .before .before .before .before .before .if1 .left) _ (c .before .before .before .before .before .before .before .find2 .ensures .0) (c .before .before .before .before .before .before .before .find2 .ensures .1) (c .before .before .before .before .before .before .if2 .left) (tested _ _ _ _ _ _ (c .before .before .before .before .before .byte-at .ensures) (c .before .before .before .byte-at3 .ensures) (c .before .before .either .ensures) (not-true _ (c .before .if3 .taken)))) (c .unreadable3 .ensures)
 
 add-byte-at-2 : tie.Need-add-byte-at-2
 add-byte-at-2 c = search needs
@@ -66,7 +66,7 @@ unreadable-requires-4 : tie.Need-unreadable-requires-4
 unreadable-requires-4 c κs = search needs
 
 returns-4 : tie.Need-returns-4
-returns-4 c = head-none _ _ _ _ _ _ _ (head-flag _ _ (c .before .before .before .before .before .before .before .before .before .before .before .before .find .ensures .0) (c .before .before .before .before .before .before .before .before .before .before .before .before .find .ensures .1) (c .before .before .before .before .before .before .before .before .before .before .before .if1 .left) _ (c .before .before .before .before .before .before .before .before .before .before .find2 .ensures .0) (c .before .before .before .before .before .before .before .before .before .before .find2 .ensures .1) (c .before .before .before .before .before .before .before .before .before .if2 .left) (tested _ _ _ _ _ _ (c .before .before .before .before .before .before .before .before .byte-at .ensures) (c .before .before .before .before .before .before .byte-at3 .ensures) (c .before .before .before .before .before .either .ensures) (not-false _ (c .before .before .before .before .if3 .left))) (tested _ _ _ _ _ _ (c .before .before .before .before .before .before .before .byte-at2 .ensures) (c .before .before .before .byte-at4 .ensures) (c .before .before .either2 .ensures) (not-true _ (c .before .if4 .taken)))) (c .unreadable4 .ensures)
+returns-4 c = head-none _ _ _ _ _ _ (head-flag _ _ (c .before .before .before .before .before .before .before .before .before .before .before .before .find .ensures .0) (c .before .before .before .before .before .before .before .before .before .before .before .before .find .ensures .1) (c .before .before .before .before .before .before .before .before .before .before .before .if1 .left) _ (c .before .before .before .before .before .before .before .before .before .before .find2 .ensures .0) (c .before .before .before .before .before .before .before .before .before .before .find2 .ensures .1) (c .before .before .before .before .before .before .before .before .before .if2 .left) (tested _ _ _ _ _ _ (c .before .before .before .before .before .before .before .before .byte-at .ensures) (c .before .before .before .before .before .before .byte-at3 .ensures) (c .before .before .before .before .before .either .ensures) (not-false _ (c .before .before .before .before .if3 .left))) (tested _ _ _ _ _ _ (c .before .before .before .before .before .before .before .byte-at2 .ensures) (c .before .before .before .byte-at4 .ensures) (c .before .before .either2 .ensures) (not-true _ (c .before .if4 .taken)))) (c .unreadable4 .ensures)
 
 add-lengths : tie.Need-add-lengths
 add-lengths c = search needs
@@ -74,11 +74,8 @@ add-lengths c = search needs
 lengths-requires : tie.Need-lengths-requires
 lengths-requires c κs = search needs
 
-same-length : tie.Need-same-length
-same-length c = search needs
-
 returns-5 : tie.Need-returns-5
-returns-5 c = head-is (two _ _ (c .before .before .before .before .before .before .before .before .before .before .before .before .before .before .before .find .ensures .0) (c .before .before .before .before .before .before .before .before .before .before .before .before .before .before .before .find .ensures .1) (c .before .before .before .before .before .before .before .before .before .before .before .before .before .before .if1 .left) _ (c .before .before .before .before .before .before .before .before .before .before .before .before .before .find2 .ensures .0) (c .before .before .before .before .before .before .before .before .before .before .before .before .before .find2 .ensures .1) (c .before .before .before .before .before .before .before .before .before .before .before .before .if2 .left)) (c .before .before .lengths .ensures _ _ (record { good-kind = tested _ _ _ _ _ _ (c .before .before .before .before .before .before .before .before .before .before .before .byte-at .ensures) (c .before .before .before .before .before .before .before .before .before .byte-at3 .ensures) (c .before .before .before .before .before .before .before .before .either .ensures) (not-false _ (c .before .before .before .before .before .before .before .if3 .left)); good-flag = tested _ _ _ _ _ _ (c .before .before .before .before .before .before .before .before .before .before .byte-at2 .ensures) (c .before .before .before .before .before .before .byte-at4 .ensures) (c .before .before .before .before .before .either2 .ensures) (not-false _ (c .before .before .before .before .if4 .left)); is-regular = c .before .before .before .before .before .before .before .before .before .before .before .byte-at .ensures; is-linear = c .before .before .before .before .before .before .before .before .before .before .byte-at2 .ensures }))
+returns-5 c = head-is (two _ _ (c .before .before .before .before .before .before .before .before .before .before .before .before .find .ensures .0) (c .before .before .before .before .before .before .before .before .before .before .before .before .find .ensures .1) (c .before .before .before .before .before .before .before .before .before .before .before .if1 .left) _ (c .before .before .before .before .before .before .before .before .before .before .find2 .ensures .0) (c .before .before .before .before .before .before .before .before .before .before .find2 .ensures .1) (c .before .before .before .before .before .before .before .before .before .if2 .left)) (c .lengths .ensures _ _ (record { good-kind = tested _ _ _ _ _ _ (c .before .before .before .before .before .before .before .before .byte-at .ensures) (c .before .before .before .before .before .before .byte-at3 .ensures) (c .before .before .before .before .before .either .ensures) (not-false _ (c .before .before .before .before .if3 .left)); good-flag = tested _ _ _ _ _ _ (c .before .before .before .before .before .before .before .byte-at2 .ensures) (c .before .before .before .byte-at4 .ensures) (c .before .before .either2 .ensures) (not-false _ (c .before .if4 .left)); is-regular = c .before .before .before .before .before .before .before .before .byte-at .ensures; is-linear = c .before .before .before .before .before .before .before .byte-at2 .ensures }))
 
 pub head-of-spec : {M : Type 1} → statement M
 head-of-spec =
@@ -105,5 +102,4 @@ head-of-spec =
     returns-4
     add-lengths
     lengths-requires
-    same-length
     returns-5)

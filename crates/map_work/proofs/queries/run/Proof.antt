@@ -22,7 +22,7 @@ same-length-2 : tie.Need-same-length-2
 same-length-2 c = search needs
 
 returns : tie.Need-returns
-returns c = ended-ok _ _ _ _ _ _ _ _ _ _ (c .before .before .before .before .before .before .before .before .before .ask-all .ensures) (omega (arith, c .before .before .before .before .before .before .before .before .before .before .before .before .before .before .before .before .before .pre .0 .room)) _ _ (c .before .before .before .before .if1 .taken) (c .before .before .put-totals .ensures)
+returns c = ended-ok _ _ _ _ _ _ _ _ _ _ (@ask-all .ensures) (omega (arith, @pre .0 .room)) _ _ (@if1 .taken) (@put-totals .ensures)
 
 add-put-unreadable : tie.Need-add-put-unreadable
 add-put-unreadable c = search needs
@@ -37,7 +37,7 @@ same-length-4 : tie.Need-same-length-4
 same-length-4 c = search needs
 
 returns-2 : tie.Need-returns-2
-returns-2 c = ended-bad _ _ _ _ _ _ _ _ _ _ (c .before .before .before .before .before .before .before .before .before .before .ask-all .ensures) (omega (arith, c .before .before .before .before .before .before .before .before .before .before .before .before .before .before .before .before .before .before .pre .0 .room)) _ _ (c .before .before .before .before .before .if1 .left) (c .before .before .put-unreadable .ensures)
+returns-2 c = ended-bad _ _ _ _ _ _ _ _ _ _ (@ask-all .ensures) (omega (arith, @pre .0 .room)) _ _ (@if1 .left) (@put-unreadable .ensures)
 
 pub run-spec : {M : Type 1} → statement M
 run-spec = tie.close (tie.spec ask-all-requires put-totals-requires same-length same-length-2 returns add-put-unreadable put-unreadable-requires same-length-3 same-length-4 returns-2)

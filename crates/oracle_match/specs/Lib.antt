@@ -1,4 +1,0 @@
-pub mod Batches
-pub mod Fits
-pub mod Lists
-pub mod Queries
