@@ -125,9 +125,10 @@ pub fn sum_gradients(
     requires { ⌜ RowsFit (s .cap) (4 + count) (now rows) × FirstsIn (now spots) good (now strides) (now coeffs) ⌝ }
     ensures { λ _. ⌜ now (out .exit) ≡ gradientsPut binary64 (now (coeffs .entry)) (now (strides .entry)) count (now (rows .entry)) (s .cap) (now (spots .entry)) (s .n) (s .from) good (now (out .entry)) ⌝ }
 {
+    let strides = *strides;
     let mut k: usize = 0;
     while k < good {
-        put_gradient(count, strides, coeffs, s, k, spots[k], rows, out);
+        put_gradient(count, &strides, coeffs, s, k, spots[k], rows, out);
         k += 1;
     }
 }

@@ -58,9 +58,11 @@ pub fn put_values(
     requires { ⌜ (1 ≤ count) × (count ≤ 4) × LastByOne count (now strides) × (m ≤ cap) × (m ≤ length (now firsts)) × RowsFit cap count (now rows) × (from + m ≤ length (now out)) × FirstsIn (now firsts) m (now strides) (now coeffs) ⌝ }
     ensures { λ _. ⌜ now (out .exit) ≡ valuesPut binary64 (now (coeffs .entry)) (now (strides .entry)) count (now (rows .entry)) cap (now (firsts .entry)) from m (now (out .entry)) ⌝ }
 {
+    // a copy, which no write to `out` can change, so that the compiler need not read the strides again for each query
+    let strides = *strides;
     let mut k: usize = 0;
     while k < m {
-        out[from + k] = value(count, strides, coeffs, rows, cap, k, firsts[k]);
+        out[from + k] = value(count, &strides, coeffs, rows, cap, k, firsts[k]);
         k += 1;
     }
 }

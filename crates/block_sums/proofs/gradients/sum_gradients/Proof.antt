@@ -10,23 +10,23 @@ use Rattle.block_sums.proofs.gradients.sum_gradients.Statement.{stateme
 use Rattle.block_sums.proofs.gradients.sum_gradients.Tie as tie
 
 abbrev Inv : tie.InvT-loop
-Inv count strides coeffs s good spots rows out₀ k₀ out k =
+Inv count strides coeffs s good spots rows out₀ strides' k₀ out k =
     Writing (λ k o. put (λ j. j * s .n + (s .from + k)) (λ j. partOf binary64 coeffs strides count rows (s .cap) (getD spots k 0) k j) count o) good out₀ out k
 
 abbrev μ : tie.MeasureT-loop
-μ count strides coeffs s good spots rows out₀ k₀ out k = good - k
+μ count strides coeffs s good spots rows out₀ strides' k₀ out k = good - k
 
 put-gradient-requires : tie.Need-put-gradient-requires Inv μ
 put-gradient-requires c κs =
-    let t = c .before .before in
-    let s = t .before .before .before .before .before .before in
+    let t = c .before .before .before in
+    let s = t .before .before .before .before .before .before .before in
     let h = s .pre .0 in
     ((h .0, h .1, h .2, omega (arith, h .3, t .loop-test .taken), omega (arith, h .4, t .loop-test .taken), omega (arith, h .5, t .before .loop .inv .length-out)), (s .pre .1 .0, s .pre .1 .1 .within _ (t .loop-test .taken)))
 
 loop-again : tie.Need-loop-again Inv μ
 loop-again c =
-    let t = c .before .before .before .before .before in
-    let a = t .before .before .before .before .before .before .args in
+    let t = c .before .before .before .before .before .before in
+    let a = t .before .before .before .before .before .before .before .args in
     let g : ℕ → ℕ → Float = λ k j. partOf binary64 (now (a .coeffs)) (now (a .strides)) (a .count) (now (a .rows)) (a .s .cap) (getD (now (a .spots)) k 0) k j in
     writing-put (a .s .from) (a .s .n) (a .count) g (t .before .loop .inv) (t .loop-test .taken) (c .before .before .put-gradient .ensures)
 
@@ -37,8 +37,8 @@ sum-gradients-spec =
     Inv
     μ
     (λ c. writing-start)
-    (λ c. omega (arith, c .before .before .before .before .before .before .pre .0 .6, c .before .before .before .before .before .before .good, c .loop-test .taken))
-    (λ c. omega (arith, c .before .before .before .before .before .before .before .pre .0 .6, c .before .loop-test .taken))
+    (λ c. omega (arith, c .before .before .before .before .before .before .before .before .pre .0 .6, c .before .before .before .before .before .before .before .before .good, c .before .loop-test .taken))
+    (λ c. omega (arith, c .before .before .before .before .before .before .before .before .before .pre .0 .6, c .before .before .loop-test .taken))
     put-gradient-requires
     (λ c. omega arith)
     (λ c. omega arith)
