@@ -31,12 +31,7 @@ pub fn one(map: MultiBsplineRectilinear, grid: &[f64], coeffs: &[f64], x: &[f64]
 }
 
 // The gradient of a single query.
-pub fn one_grad(
-    map: MultiBsplineRectilinear,
-    grid: &[f64],
-    coeffs: &[f64],
-    x: &[f64],
-) -> Gradient
+pub fn one_grad(map: MultiBsplineRectilinear, grid: &[f64], coeffs: &[f64], x: &[f64]) -> Gradient
     ensures { λ r. ⌜ OneGradient (rectilinear binary64 (mapOf map) (now (grid .entry)) (now (coeffs .entry))) (now (x .entry)) (answerNumber (r .answer)) (r .parts) ⌝ }
 {
     let dims = map.dims;

@@ -17,7 +17,6 @@ Inv map grid xs s good spots work₀ a₀ work a = AxesSoFar (slopesFor binary64
 abbrev μ : tie.MeasureT-loop
 μ map grid xs s good spots work₀ a₀ work a = map .count - a
 
-
 slope-next-requires : tie.Need-slope-next-requires Inv μ
 slope-next-requires c κs =
     let h = c .before .if1 .taken in

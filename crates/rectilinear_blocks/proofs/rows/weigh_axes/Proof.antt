@@ -16,7 +16,6 @@ Inv map grid xs s good spots work₀ a₀ work a = AxesSoFar (weightsFor binary6
 abbrev μ : tie.MeasureT-loop
 μ map grid xs s good spots work₀ a₀ work a = map .count - a
 
-
 weigh-next-requires : tie.Need-weigh-next-requires Inv μ
 weigh-next-requires c κs =
     let h = c .before .if1 .taken in
