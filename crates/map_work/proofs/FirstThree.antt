@@ -137,22 +137,20 @@ module _ (count : ℕ) (lens : List ℕ) (n : ℕ) (e : n ≡ firstRefusal (shap
 pub limit-usable : (line : FirstLine) → length (line .dims) ≡ 4 → firstRefusal (limitChecks 512 (line .count) (headOf line .dims)) ≡ 0 → Shaped line
 unfolding firstRefusal
 limit-usable line four e =
-    go (eqb count 0 || ltb 4 count) (anyShort (take count lens)) (ltb 512 (size (take count lens))) refl refl refl e
+    let count = line .count in
+    let lens = line .dims in
+    go count lens (λ u s. record { usable = u; four = four; small = s }) four
+    (eqb count 0 || ltb 4 count) (anyShort (take count lens)) (ltb 512 (size (take count lens))) refl refl refl e
   where
-    abbrev count : ℕ
-    count = line .count
-
-    abbrev lens : List ℕ
-    lens = line .dims
-
-    go : (a b d : Bool) → eqb count 0 || ltb 4 count ≡ a → anyShort (take count lens) ≡ b → ltb 512 (size (take count lens)) ≡ d → _≡_ {A = ℕ} (cond a 1 (cond b 2 (cond d 3 0))) 0
+    go : (count : ℕ) (lens : List ℕ) → (Usable count lens → size (take count lens) ≤ 512 → Shaped line) → length lens ≡ 4
+        → (a b d : Bool) → eqb count 0 || ltb 4 count ≡ a → anyShort (take count lens) ≡ b → ltb 512 (size (take count lens)) ≡ d → _≡_ {A = ℕ} (cond a 1 (cond b 2 (cond d 3 0))) 0
         → Shaped line
-    go true b d x y w q = absurd (let z : ⊥ = omega (arith, q) in z)
-    go false true d x y w q = absurd (let z : ⊥ = omega (arith, q) in z)
-    go false false true x y w q = absurd (let z : ⊥ = omega (arith, q) in z)
-    go false false false x y w q =
+    go count lens made four true b d x y w q = absurd (let z : ⊥ = omega (arith, q) in z)
+    go count lens made four false true d x y w q = absurd (let z : ⊥ = omega (arith, q) in z)
+    go count lens made four false false true x y w q = absurd (let z : ⊥ = omega (arith, q) in z)
+    go count lens made four false false false x y w q =
         let small : size (take count lens) ≤ 512 = ltb-false 512 (size (take count lens)) w in
-        record { four = four; usable = usable count lens four (rw (x, y, le-ltb mostPoints (size (take count lens)) (omega arith))); small = small }
+        made (usable count lens four (rw (x, y, le-ltb mostPoints (size (take count lens)) (omega arith)))) small
 
 -- the floats of line 2, and the lengths that building the map wants
 module _ (line : FirstLine) (shaped : Shaped line) where
@@ -281,7 +279,7 @@ ready-run number h s w = record {
 }
 
 pub ready-first : {n at out : ℕ} (line : FirstLine) → Shaped line → n ≤ 32768 → 1 ≤ at → at ≤ n + 1 → 98440 ≤ out → Ready n at (line .count) out 4
-ready-first line u short some on room = record {
+ready-first line u short begun on room = record {
   short = short;
   on = on;
   some-axis = u .usable .some-axis;

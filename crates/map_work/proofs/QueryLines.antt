@@ -138,6 +138,14 @@ Ready-step input at s axes ol place new ok side next place′ new′ h t k = rec
   room = omega (arith, h .room, h .some-axis, t .size, t .row .far k, t .row .end);
 }
 
+-- as many floats as there are axes
+pub asks-at : {n at axes out o k m : ℕ} → m ≡ k → Ready n at k out o × (k ≡ axes) → Ready n at m out o × (m ≡ axes)
+asks-at e p = rw e p
+
+pub turned-at : {input : List ℕ} {at : ℕ} {s : Surface} {n m : ℕ} {out : List ℕ} {o : ℕ} {ok outside : Bool} {next place : ℕ} {new : List ℕ} → n ≡ m
+    → Turned input at s n out o ok outside next place new → Turned input at s m out o ok outside next place new
+turned-at {input} {at} {s} {out = out} {o} {ok} {outside} {next} {place} {new} e t = subst (λ (k : ℕ). Turned input at s k out o ok outside next place new) e t
+
 -- ---- after the loop
 module _ (input : List ℕ) (at : ℕ) (s : Surface) (out : List ℕ) (o : ℕ) (ok : Bool) (asked outside place : ℕ) (new : List ℕ) (h : Ended input at s out o ok asked outside place new) (fits : o ≤ length out)
     (last : List ℕ) (r : ℕ) where

@@ -1,7 +1,7 @@
 // The first three lines, and the whole: a function for each definition of specs/Program.antt, in the same order of reading.
 ghost use mathlib.Core.Path.{_≡_};
 ghost use mathlib.Core.List.{_++_};
-ghost use Prim.Native.Nat.{_≤_};
+ghost use Prim.Native.Nat.{_+_, _≤_};
 ghost use lib.ListN.{length, take, drop};
 ghost use Rattle.shape.specs.Shape.{size};
 ghost use Rattle.shape.specs.Checks.{firstRefusal, limitChecks};
@@ -119,7 +119,8 @@ fn row_len(line: FirstLine) -> usize
     if line.regular {
         return 2 * line.count;
     }
-    knots::grid_len(line.count, line.dims)
+    let dims = line.dims;
+    knots::grid_len(line.count, dims)
 }
 
 fn second(input: &[u8], at: usize, line: FirstLine, out: &mut [u8]) -> usize
@@ -132,9 +133,10 @@ fn second(input: &[u8], at: usize, line: FirstLine, out: &mut [u8]) -> usize
     second_in(input, at, line, &mut row[..n], out)
 }
 
-// The refusal of the shape, or 0.
+// The refusal of the shape, or 0. That an array of four has four entries is known where it is a parameter, and so handed on.
 fn shape_number(count: usize, dims: [usize; 4]) -> u64
     ensures { λ r. ⌜ r ≡ firstRefusal (limitChecks 512 count (take count dims)) ⌝ }
+    ensures { λ _. ⌜ length dims ≡ 4 ⌝ }
 {
     let shape = Shape { count, dims };
     let answer = shape.check();
@@ -153,7 +155,8 @@ fn shaped(input: &[u8], at: usize, line: FirstLine, out: &mut [u8]) -> usize
     requires { ⌜ (length (now input) ≤ 32768) × (1 ≤ at) × (at ≤ length (now input) + 1) × (98440 ≤ length (now out)) ⌝ }
     ensures { λ r. ⌜ Wrote (now (out .entry)) 0 (fromShape (headOf line) (line .count) (lines (drop at (now (input .entry))))) (now (out .exit)) r ⌝ }
 {
-    let number = shape_number(line.count, line.dims);
+    let dims = line.dims;
+    let number = shape_number(line.count, dims);
     if number == 0 {
         return second(input, at, line, out);
     }

@@ -47,7 +47,39 @@ struct Turn {
     place: usize,
 }
 
-// One query line, on `count` axes: read, answered, printed.
+// One query line: read, answered, printed.
+fn ask_in(
+    input: &[u8],
+    at: usize,
+    map: Map,
+    grid: &[f64],
+    coeffs: &[f64],
+    x: &mut [f64],
+    out: &mut [u8],
+    o: usize,
+) -> Turn
+    requires { ⌜ Ready (length (now input)) at (length (now x)) (length (now out)) o × (length (now x) ≡ surfaceOf map (now grid) (now coeffs) .spline .axes) ⌝ }
+    ensures { λ r. ⌜ Turned (now (input .entry)) at (surfaceOf map (now (grid .entry)) (now (coeffs .entry))) (length (now (x .entry))) (now (out .entry)) o (r .ok) (r .outside) (r .next) (r .place) (now (out .exit)) ⌝ }
+{
+    let row = map_fields::read_row(input, at, x);
+    if row.ok {
+        let printed = answer(map, grid, coeffs, x, out, o);
+        return Turn {
+            ok: true,
+            outside: printed.outside,
+            next: row.next,
+            place: printed.place,
+        };
+    }
+    Turn {
+        ok: false,
+        outside: false,
+        next: row.next,
+        place: o,
+    }
+}
+
+// The same on `count` axes.
 fn ask_one(
     input: &[u8],
     at: usize,
@@ -62,22 +94,7 @@ fn ask_one(
     ensures { λ r. ⌜ Turned (now (input .entry)) at (surfaceOf map (now (grid .entry)) (now (coeffs .entry))) count (now (out .entry)) o (r .ok) (r .outside) (r .next) (r .place) (now (out .exit)) ⌝ }
 {
     let mut x = [0.0f64; 4];
-    let row = map_fields::read_row(input, at, &mut x[..count]);
-    if row.ok {
-        let printed = answer(map, grid, coeffs, &x[..count], out, o);
-        return Turn {
-            ok: true,
-            outside: printed.outside,
-            next: row.next,
-            place: printed.place,
-        };
-    }
-    Turn {
-        ok: false,
-        outside: false,
-        next: row.next,
-        place: o,
-    }
+    ask_in(input, at, map, grid, coeffs, &mut x[..count], out, o)
 }
 
 struct End {

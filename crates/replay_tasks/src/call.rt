@@ -133,14 +133,7 @@ fn solve_into(
     answer
 }
 
-fn solve_cells(
-    text: &[u8],
-    at: usize,
-    grid: &[f64],
-    c: usize,
-    m: usize,
-    cells: &mut [u64],
-) -> u64
+fn solve_cells(text: &[u8], at: usize, grid: &[f64], c: usize, m: usize, cells: &mut [u64]) -> u64
     requires { ⌜ (at ≤ 65536) × (c ≤ m) × (m ≤ c + 1024) × (m ≤ length (now cells)) × (length (now cells) ≤ 3072) ⌝ }
 {
     let l = m - c;
