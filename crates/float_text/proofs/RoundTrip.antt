@@ -12,7 +12,7 @@ use lib.Ieee.{Float, isNan, ofBits, toBits, fits, binary64}
 use lib.Ieee.Bits.{ofBits-toBits, toBits-lt, toBits-ofBits}
 use borrow.Author.Tests.{lt-ltb, le-ltb, eq-eqb, ltb-true, ltb-false, eqb-true}
 use Rattle.float_text.specs.Digits.{numberFrom, digitOf, digitsOf, letterOf}
-use Rattle.float_text.specs.Bits.{bitsIn, bitsText, floatIn, floatText}
+use Rattle.float_text.specs.Bits.{bitsIn, bitsText, floatIn, floatText, sameBits}
 use Rattle.float_text.specs.declared.Pattern.the-variants.{Bits, Unreadable}
 use Rattle.float_text.specs.declared.Value.the-variants.{Float as Float·}
 use Rattle.float_text.proofs.Writing.{length-digits}
@@ -154,3 +154,13 @@ pub written-read-float : (text : List ℕ) (n : ℕ) → bitsIn text ≡ Bits n 
 unfolding floatText
 written-read-float text n e k =
     rw (toBits-ofBits binary64 n (read-fits text n e) k) (written-read text n e)
+
+-- floats with the same bits are equal, and the other way round
+pub same-equal : (x y : Float) → T (fits binary64 x) → T (fits binary64 y) → sameBits x y ≡ true → x ≡ y
+unfolding sameBits
+same-equal x y h k e =
+    sym (ofBits-toBits binary64 x h) ∙ ap (ofBits binary64) (eqb-true _ _ e) ∙ ofBits-toBits binary64 y k
+
+pub equal-same : (x y : Float) → x ≡ y → sameBits x y ≡ true
+unfolding sameBits
+equal-same x y e = eq-eqb _ _ (ap (toBits binary64) e)

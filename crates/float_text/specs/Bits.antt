@@ -32,6 +32,10 @@ floatIn text = valueOf (bitsIn text)
 unfoldable pub floatText : Float → List ℕ
 floatText x = bitsText (toBits binary64 x)
 
+-- the same bits, any NaN for any NaN: there is one NaN here
+unfoldable pub sameBits : Float → Float → Bool
+sameBits x y = eqb (toBits binary64 x) (toBits binary64 y)
+
 -- 16 bytes of text are put into a buffer from `at` on, where there is room
 pub record Written (text : List ℕ) (at : ℕ) (old : List ℕ) (answer : Bool) (new : List ℕ) : Type 0 where
   pub room : answer ≡ leb (at + 16) (length old)

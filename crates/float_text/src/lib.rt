@@ -7,7 +7,7 @@ ghost use lib.ListN.{length};
 ghost use lib.Seq.{paste};
 ghost use lib.Ieee.{binary64, ofBits, toBits};
 ghost use Rattle.float_text.specs.Digits.{digitOf, letterOf, numberFrom, digitsOf};
-ghost use Rattle.float_text.specs.Bits.{bitsIn, bitsText, floatIn, floatText, Written};
+ghost use Rattle.float_text.specs.Bits.{bitsIn, bitsText, floatIn, floatText, sameBits, Written};
 
 // The 64 bits that a text gives.
 pub enum Pattern {
@@ -153,4 +153,11 @@ pub fn bits_of(x: f64) -> u64
         return 0x7ff8000000000000;
     }
     f64::to_bits(x)
+}
+
+// Whether two floats have the same bits, any NaN for any NaN; so zeros of different signs differ, and a NaN is the same as itself.
+pub fn same_bits(x: f64, y: f64) -> bool
+    ensures { λ r. ⌜ r ≡ sameBits x y ⌝ }
+{
+    bits_of(x) == bits_of(y)
 }

@@ -1,3 +1,4 @@
 pub mod Alike
+pub mod CellLaws
 pub mod Turns
 pub mod WordLaws

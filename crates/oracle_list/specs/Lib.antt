@@ -1,6 +1,3 @@
 pub mod Words
-pub mod Near
+pub mod Cells
 pub mod Agree
-pub mod Fits
-pub mod Batches
-pub mod Queries

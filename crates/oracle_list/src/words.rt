@@ -49,17 +49,6 @@ pub fn size_at(text: &[u8], i: usize) -> usize
     number_at(text, i) as usize
 }
 
-// The same, at most `most`: 0 where it is above, which it is in no record that is replayed.
-pub fn length_at(text: &[u8], i: usize, most: usize) -> usize
-    ensures { λ r. ⌜ r ≤ most ⌝ }
-{
-    let n = size_at(text, i);
-    if n > most {
-        return 0;
-    }
-    n
-}
-
 // Whether word i is this number.
 pub fn is_number(text: &[u8], i: usize, n: u64) -> bool
     ensures { λ r. ⌜ (r ≡ true → IsNumber (now (text .entry)) i n) ⌝ }

@@ -1,21 +1,11 @@
-// The call under test. Only this file knows what a float is.
-ghost use Prim.Native.Nat.{_+_, _≤_};
+// The call under test, and what it leaves.
+ghost use Prim.Native.Nat.{_≤_};
 ghost use lib.ListN.{length};
-use oracle_list::floats_at;
-use oracle_list::floats_of;
-use oracle_list::length_at;
-use oracle_list::put_bits;
-use oracle_list::put_counting;
+use oracle_list::filled;
 use oracle_run::shape_of;
 
 // The fit, on the shape of a record: kinds from 6 on are rectilinear. The number of its answer.
-fn fit_on(
-    text: &[u8],
-    grid: &[f64],
-    samples: &[f64],
-    coeffs: &mut [f64],
-    scratch: &mut [f64],
-) -> u64 {
+fn fit(text: &[u8], grid: &[f64], samples: &[f64], coeffs: &mut [f64], scratch: &mut [f64]) -> u64 {
     let shape = shape_of(text);
     if oracle_list::number_at(text, 0) < 6 {
         return regular::coefficients(shape, samples, coeffs, scratch).number();
@@ -23,55 +13,57 @@ fn fit_on(
     rectilinear::coefficients(shape, grid, samples, coeffs, scratch).number()
 }
 
-// The same, whose buffers are then put into cells: coefficients, then scratch.
-fn fit_into(
+// On buffers of the record's lengths, with words from word `first` on: whether answer and buffers are as it expects.
+fn is_fit_right(
     text: &[u8],
+    first: usize,
     grid: &[f64],
     samples: &[f64],
     coeffs: &mut [f64],
     scratch: &mut [f64],
-    cells: &mut [u64],
-) -> u64
-    requires { ⌜ length (now coeffs) + length (now scratch) ≤ length (now cells) ⌝ }
+) -> bool
+    requires { ⌜ (first ≤ 8192) × (length (now coeffs) ≤ 2048) × (length (now scratch) ≤ 2048) ⌝ }
 {
-    let answer = fit_on(text, grid, samples, coeffs, scratch);
-    put_bits(coeffs, 0, cells);
-    put_bits(scratch, coeffs.len(), cells);
-    answer
+    let answer = fit(text, grid, samples, coeffs, scratch);
+    oracle_match::fit_agrees(text, answer, first, coeffs, scratch)
 }
 
-// The same on what the cells hold: coefficients before place c, then scratch.
-fn fit_cells(text: &[u8], c: usize, grid: &[f64], samples: &[f64], cells: &mut [u64]) -> u64
-    requires { ⌜ (c ≤ length (now cells)) × (length (now cells) ≤ 3072) ⌝ }
+// The same on fresh buffers.
+fn is_right(text: &[u8], first: usize, c: usize, w: usize, grid: &[f64], samples: &[f64]) -> bool
+    requires { ⌜ (first ≤ 8192) × (c ≤ 2048) × (w ≤ 512) ⌝ }
 {
-    let w = cells.len() - c;
-    let mut coeffs = floats_of(&cells[..c]);
-    let mut scratch = floats_of(&cells[c..]);
-    fit_into(
+    let mut coeffs = filled(0.5, 1.0);
+    let mut scratch = filled(-0.25, -1.0);
+    is_fit_right(
         text,
+        first,
         grid,
         samples,
         &mut coeffs[..c],
         &mut scratch[..w],
-        cells,
     )
 }
 
-// What the calls of the list find in their buffers: coefficient cell i holds i + 0.5, and scratch cell i holds -i - 0.25.
-pub fn put_before(c: usize, cells: &mut [u64])
-    requires { ⌜ c ≤ length (now cells) ⌝ }
+// The same of floats that have been read: the knots before place g, then the samples.
+fn are_floats_right(text: &[u8], g: usize, c: usize, w: usize, floats: &[f64]) -> bool
+    requires { ⌜ (g ≤ length (now floats)) × (length (now floats) ≤ 2560) × (c ≤ 2048) × (w ≤ 512) ⌝ }
 {
-    put_counting(0.5, 1.0, &mut cells[..c]);
-    put_counting(-0.25, -1.0, &mut cells[c..]);
+    is_right(text, 13 + floats.len(), c, w, &floats[..g], &floats[g..])
 }
 
-// The fit of a record.
-pub fn fit(text: &[u8], c: usize, cells: &mut [u64]) -> u64
-    requires { ⌜ (c ≤ length (now cells)) × (length (now cells) ≤ 3072) ⌝ }
+// The same, in a buffer into which the floats are read.
+fn is_read_right(text: &[u8], g: usize, c: usize, w: usize, floats: &mut [f64]) -> bool
+    requires { ⌜ (g ≤ length (now floats)) × (length (now floats) ≤ 2560) × (c ≤ 2048) × (w ≤ 512) ⌝ }
 {
-    let g = length_at(text, 7, 512);
-    let s = length_at(text, 8, 2048);
-    let grid = floats_at(text, 13, g);
-    let samples = floats_at(text, 13 + g, s);
-    fit_cells(text, c, &grid[..g], &samples[..s], cells)
+    oracle_list::read_cells(text, 13, floats);
+    are_floats_right(text, g, c, w, floats)
+}
+
+// A record with g knots and s samples: whether all is as it expects.
+pub fn replay(text: &[u8], g: usize, s: usize, c: usize, w: usize) -> bool
+    requires { ⌜ (g ≤ 512) × (s ≤ 2048) × (c ≤ 2048) × (w ≤ 512) ⌝ }
+{
+    let end = g + s;
+    let mut floats = oracle_list::zeros();
+    is_read_right(text, g, c, w, &mut floats[..end])
 }

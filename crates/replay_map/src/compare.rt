@@ -13,7 +13,7 @@ fn is_printed_for(input: &[u8], spare: &[u8], expected: &[u8]) -> bool
 {
     let mut out = [0u8; 98440];
     let n = map_work::work_on(input, spare, &mut out);
-    oracle_list::is_text(&out, n, expected)
+    oracle_match::is_text(&out, n, expected)
 }
 
 // Whether the program prints what is expected, for an input of any length: it keeps the first 32,768 bytes of a longer one, and a

@@ -1,38 +1,63 @@
 // A record's map: building it, its two batches, and its queries by themselves.
 ghost use mathlib.Core.Path.{_≡_};
+ghost use mathlib.Core.Bool.{true};
 ghost use Prim.Native.Nat.{_≤_};
 ghost use lib.ListN.{length};
+ghost use Rattle.oracle_match.specs.Batches.{BatchLeft};
 use crate::map;
+use crate::ones::ask_all;
 use crate::record::is_answered;
-use oracle_list::filled;
-use oracle_list::length_at;
 use oracle_list::number_at;
+use oracle_list::size_at;
+use oracle_match::batch_agrees;
 
-// A batch, of n queries with `count` cells each, in cells that are as `before`: word `at` has its answer, and what is expected in
-// its output starts at word `first`.
-fn is_output_right(
+// The batch of values, whose answer is word 13, or that of gradients, whose answer is word 15: its answer's number.
+fn run(text: &[u8], at: usize, grid: &[f64], coeffs: &[f64], xs: &[f64], out: &mut [f64]) -> u64 {
+    if at == 13 {
+        return map::values(text, grid, coeffs, xs, out);
+    }
+    map::gradients(text, grid, coeffs, xs, out)
+}
+
+// The same on an output of the length that the record asks for, with words from word `first` on.
+fn is_run_right(
     text: &[u8],
     at: usize,
     first: usize,
     count: usize,
     n: usize,
-    before: &[u64],
-    cells: &mut [u64],
+    grid: &[f64],
+    coeffs: &[f64],
+    xs: &[f64],
+    out: &mut [f64],
 ) -> bool
-    requires { ⌜ (at ≤ 64) × (first ≤ 8192) × (count ≤ 4) × (n ≤ 1024) × (length (now cells) ≤ 1024) × (length (now before) ≡ length (now cells)) ⌝ }
+    requires { ⌜ (at ≤ 64) × (first ≤ 8192) × (count ≤ 4) × (n ≤ 1024) × (length (now out) ≤ 1024) ⌝ }
+    ensures { λ r. ⌜ (r ≡ true → BatchLeft (now (text .entry)) at first count n (now (out .exit))) ⌝ }
 {
-    let answer = map::batch(text, at, cells);
-    oracle_list::batch_agrees(text, at, answer, first, count, n, before, cells)
+    let answer = run(text, at, grid, coeffs, xs, out);
+    batch_agrees(text, at, answer, first, count, n, out)
 }
 
-// The same in fresh cells: word `size` has the length of the output.
-fn is_batch_right(text: &[u8], at: usize, size: usize, first: usize, count: usize, n: usize) -> bool
+// The same on a fresh output; word `size` has its length.
+fn is_batch_right(
+    text: &[u8],
+    size: usize,
+    at: usize,
+    first: usize,
+    count: usize,
+    n: usize,
+    grid: &[f64],
+    coeffs: &[f64],
+    xs: &[f64],
+) -> bool
     requires { ⌜ (at ≤ 64) × (first ≤ 8192) × (count ≤ 4) × (n ≤ 1024) ⌝ }
 {
-    let m = length_at(text, size, 1024);
-    let before = filled();
-    let mut cells = filled();
-    is_output_right(text, at, first, count, n, &before[..m], &mut cells[..m])
+    let m = size_at(text, size);
+    if m > 1024 {
+        return false;
+    }
+    let mut out = oracle_list::filled(0.5, 1.0);
+    is_run_right(text, at, first, count, n, grid, coeffs, xs, &mut out[..m])
 }
 
 // Whether there are as many coordinates as values on each of up to four axes.
@@ -66,35 +91,68 @@ fn is_built_right(text: &[u8], built: u64) -> bool {
     built == 0
 }
 
-// Every query by itself, of n on `count` axes: answers from word `first` on, then values, then gradients.
-fn are_ones_right(text: &[u8], first: usize, count: usize, n: usize) -> bool
-    requires { ⌜ (first ≤ 8192) × (count ≤ 4) × (n ≤ 1024) ⌝ }
+// A record whose floats have been read: from word `first` on it has what is expected of n queries on `count` axes.
+fn is_map_right(
+    text: &[u8],
+    first: usize,
+    count: usize,
+    n: usize,
+    grid: &[f64],
+    coeffs: &[f64],
+    xs: &[f64],
+) -> bool
+    requires { ⌜ (first ≤ 4096) × (count ≤ 4) × (n ≤ 1024) ⌝ }
 {
-    let mut i: usize = 0;
-    while i < n {
-        if !oracle_list::query_agrees(text, first + i, n, count, map::ask(text, i, n, count)) {
-            return false;
-        }
-        i += 1;
+    let second = first + n;
+    let third = second + n;
+    if !is_built_right(text, map::built(text, grid, coeffs)) {
+        return false;
     }
-    true
+    if !is_batch_right(text, 11, 13, second, 1, n, grid, coeffs, xs) {
+        return false;
+    }
+    if !is_batch_right(text, 12, 15, third, count, n, grid, coeffs, xs) {
+        return false;
+    }
+    ask_all(text, first, n, count, grid, coeffs, xs)
 }
 
-// A record with n queries on `count` axes: whether all is as it expects.
-pub fn is_right(text: &[u8], count: usize, n: usize) -> bool
-    requires { ⌜ (count ≤ 4) × (n ≤ 1024) ⌝ }
+// The same of floats that have been read: the grid before place g, the coefficients from there to place m, the coordinates.
+fn are_floats_right(text: &[u8], g: usize, m: usize, count: usize, n: usize, floats: &[f64]) -> bool
+    requires { ⌜ (g ≤ m) × (m ≤ length (now floats)) × (length (now floats) ≤ 3072) × (count ≤ 4) × (n ≤ 1024) ⌝ }
 {
-    let floats = length_at(text, 8, 1024) + length_at(text, 9, 1024) + length_at(text, 10, 1024);
-    let first = 17 + floats;
-    let second = first + n;
-    if !is_built_right(text, map::built(text)) {
-        return false;
-    }
-    if !is_batch_right(text, 13, 11, second, 1, n) {
-        return false;
-    }
-    if !is_batch_right(text, 15, 12, second + n, count, n) {
-        return false;
-    }
-    are_ones_right(text, first, count, n)
+    is_map_right(
+        text,
+        17 + floats.len(),
+        count,
+        n,
+        &floats[..g],
+        &floats[g..m],
+        &floats[m..],
+    )
+}
+
+// The same, in a buffer into which the floats are read.
+fn is_read_right(
+    text: &[u8],
+    g: usize,
+    m: usize,
+    count: usize,
+    n: usize,
+    floats: &mut [f64],
+) -> bool
+    requires { ⌜ (g ≤ m) × (m ≤ length (now floats)) × (length (now floats) ≤ 3072) × (count ≤ 4) × (n ≤ 1024) ⌝ }
+{
+    oracle_list::read_cells(text, 17, floats);
+    are_floats_right(text, g, m, count, n, floats)
+}
+
+// A record with g floats of a grid, c coefficients and x coordinates: whether all is as it expects.
+pub fn replay(text: &[u8], g: usize, c: usize, x: usize, count: usize, n: usize) -> bool
+    requires { ⌜ (g ≤ 1024) × (c ≤ 1024) × (x ≤ 1024) × (count ≤ 4) × (n ≤ 1024) ⌝ }
+{
+    let m = g + c;
+    let end = m + x;
+    let mut floats = oracle_list::zeros();
+    is_read_right(text, g, m, count, n, &mut floats[..end])
 }

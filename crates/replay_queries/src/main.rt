@@ -3,6 +3,7 @@
 // README describes it.
 mod batch;
 mod map;
+mod ones;
 mod record;
 
 use oracle_run::Outcome;

@@ -1,7 +1,6 @@
 // One record of the list: whether it can be read, and what it counts as.
 ghost use Prim.Native.Nat.{_≤_};
-use crate::batch::is_right;
-use oracle_list::length_at;
+use crate::batch;
 use oracle_list::number_at;
 use oracle_list::size_at;
 use oracle_run::Outcome;
@@ -24,15 +23,10 @@ pub fn is_answered(text: &[u8]) -> bool {
     is_begun(number_at(text, 15))
 }
 
-// How many words come before what is expected.
-fn given(text: &[u8]) -> usize
-    ensures { λ r. ⌜ r ≤ 4096 ⌝ }
+// A record whose queries are answered, one by one; it has g floats of a grid, c coefficients, and x coordinates.
+fn replay_map(text: &[u8], g: usize, c: usize, x: usize) -> Outcome
+    requires { ⌜ (g ≤ 1024) × (c ≤ 1024) × (x ≤ 1024) ⌝ }
 {
-    17 + length_at(text, 8, 1024) + length_at(text, 9, 1024) + length_at(text, 10, 1024)
-}
-
-// A record whose queries are answered, one by one.
-fn replay_map(text: &[u8]) -> Outcome {
     let count = size_at(text, 2);
     if count == 0 {
         return Outcome::Unreadable;
@@ -40,40 +34,44 @@ fn replay_map(text: &[u8]) -> Outcome {
     if count > 4 {
         return Outcome::Unreadable;
     }
-    let x = length_at(text, 10, 1024);
     let n = x / count;
     if n > 1024 {
         return Outcome::Unreadable;
     }
-    if !is_whole(text, given(text), n + n + x, 0) {
+    if !is_whole(text, 17 + g + c + x, n + n + x, 0) {
         return Outcome::Unreadable;
     }
-    replayed(1, n as u64, 0, is_right(text, count, n))
+    replayed(1, n as u64, 0, batch::replay(text, g, c, x, count, n))
 }
 
 // A record that is refused as a whole: no query is answered.
-fn replay_refusal(text: &[u8]) -> Outcome {
-    if !is_whole(text, given(text), 0, 0) {
+fn replay_refusal(text: &[u8], g: usize, c: usize, x: usize) -> Outcome
+    requires { ⌜ (g ≤ 1024) × (c ≤ 1024) × (x ≤ 1024) ⌝ }
+{
+    if !is_whole(text, 17 + g + c + x, 0, 0) {
         return Outcome::Unreadable;
     }
-    replayed(0, 0, 1, is_right(text, 0, 0))
+    replayed(0, 0, 1, batch::replay(text, g, c, x, 0, 0))
 }
 
-// Whether the lengths of a record are within their limits.
-fn is_sized(text: &[u8]) -> bool {
-    if size_at(text, 8) > 1024 {
-        return false;
+// A record of a known kind.
+fn replay_kind(text: &[u8]) -> Outcome {
+    let g = size_at(text, 8);
+    let c = size_at(text, 9);
+    let x = size_at(text, 10);
+    if g > 1024 {
+        return Outcome::Unreadable;
     }
-    if size_at(text, 9) > 1024 {
-        return false;
+    if c > 1024 {
+        return Outcome::Unreadable;
     }
-    if size_at(text, 10) > 1024 {
-        return false;
+    if x > 1024 {
+        return Outcome::Unreadable;
     }
-    if size_at(text, 11) > 1024 {
-        return false;
+    if is_answered(text) {
+        return replay_map(text, g, c, x);
     }
-    size_at(text, 12) <= 1024
+    replay_refusal(text, g, c, x)
 }
 
 // Whether a record of this kind may have this flag and this many floats of a grid.
@@ -100,11 +98,5 @@ pub fn replay(text: &[u8]) -> Outcome {
     if !is_kind(number_at(text, 0), number_at(text, 7), number_at(text, 8)) {
         return Outcome::Unreadable;
     }
-    if !is_sized(text) {
-        return Outcome::Unreadable;
-    }
-    if is_answered(text) {
-        return replay_map(text);
-    }
-    replay_refusal(text)
+    replay_kind(text)
 }

@@ -4,6 +4,7 @@
 mod call;
 mod record;
 mod run;
+mod steps;
 
 use oracle_run::Outcome;
 use oracle_run::Tally;

@@ -1,6 +1,6 @@
 // One record of the list: whether it can be read, and what it counts as.
+ghost use Prim.Native.Nat.{_≤_};
 use crate::run;
-use oracle_list::length_at;
 use oracle_list::number_at;
 use oracle_list::size_at;
 use oracle_run::Outcome;
@@ -8,46 +8,61 @@ use oracle_run::is_whole;
 use oracle_run::replayed;
 
 // A record whose begin is refused: it has no tasks.
-fn replay_refusal(text: &[u8]) -> Outcome {
+fn replay_refusal(text: &[u8], g: usize, s: usize) -> Outcome
+    requires { ⌜ (g ≤ 1024) × (s ≤ 1024) ⌝ }
+{
     if size_at(text, 13) != 0 {
         return Outcome::Unreadable;
     }
-    let first = 14 + length_at(text, 7, 1024) + length_at(text, 8, 1024);
-    if !is_whole(text, first, 0, 0) {
+    if !is_whole(text, 14 + g + s, 0, 0) {
         return Outcome::Unreadable;
     }
-    replayed(0, 0, 1, run::is_refused(text))
+    replayed(0, 0, 1, run::replay_begin(text, g, s))
 }
 
-// A record whose begin is accepted: four words a task, then coefficients, then the ledger.
-fn replay_list(text: &[u8]) -> Outcome {
-    let first = 14 + length_at(text, 7, 1024) + length_at(text, 8, 1024);
-    let n = length_at(text, 13, 512);
-    let left = n * 4 + length_at(text, 9, 1024) + length_at(text, 10, 1024);
-    if !is_whole(text, first, left, 0) {
+// A record with n tasks, coefficients of length c and a ledger of length l.
+fn replay_list(text: &[u8], g: usize, s: usize, n: usize, c: usize, l: usize) -> Outcome
+    requires { ⌜ (g ≤ 1024) × (s ≤ 1024) × (n ≤ 512) × (c ≤ 1024) × (l ≤ 1024) ⌝ }
+{
+    if !is_whole(text, 14 + g + s, n * 4 + c + l, 0) {
         return Outcome::Unreadable;
     }
-    replayed(1, n as u64, 0, run::is_list_right(text))
+    replayed(1, n as u64, 0, run::replay_list(text, g, s, n, c, l))
 }
 
-// Whether the lengths of a record are within their limits.
-fn is_sized(text: &[u8]) -> bool {
-    if size_at(text, 7) > 1024 {
-        return false;
+// A record whose begin is accepted: tasks, coefficients and ledger are no longer than the buffers.
+fn replay_accepted(text: &[u8], g: usize, s: usize) -> Outcome
+    requires { ⌜ (g ≤ 1024) × (s ≤ 1024) ⌝ }
+{
+    let n = size_at(text, 13);
+    let c = size_at(text, 9);
+    let l = size_at(text, 10);
+    if n > 512 {
+        return Outcome::Unreadable;
     }
-    if size_at(text, 8) > 1024 {
-        return false;
+    if c > 1024 {
+        return Outcome::Unreadable;
     }
-    if size_at(text, 9) > 1024 {
-        return false;
+    if l > 1024 {
+        return Outcome::Unreadable;
     }
-    if size_at(text, 10) > 1024 {
-        return false;
+    replay_list(text, g, s, n, c, l)
+}
+
+// A record of a known kind.
+fn replay_kind(text: &[u8]) -> Outcome {
+    let g = size_at(text, 7);
+    let s = size_at(text, 8);
+    if g > 1024 {
+        return Outcome::Unreadable;
     }
-    if size_at(text, 11) > 1024 {
-        return false;
+    if s > 1024 {
+        return Outcome::Unreadable;
     }
-    size_at(text, 13) <= 512
+    if number_at(text, 12) != 0 {
+        return replay_refusal(text, g, s);
+    }
+    replay_accepted(text, g, s)
 }
 
 // Whether a record of this kind may have this many knots.
@@ -65,11 +80,5 @@ pub fn replay(text: &[u8]) -> Outcome {
     if !is_kind(number_at(text, 0), number_at(text, 7)) {
         return Outcome::Unreadable;
     }
-    if !is_sized(text) {
-        return Outcome::Unreadable;
-    }
-    if number_at(text, 12) != 0 {
-        return replay_refusal(text);
-    }
-    replay_list(text)
+    replay_kind(text)
 }

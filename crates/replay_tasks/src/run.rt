@@ -1,93 +1,129 @@
-// The runs of a record: a begin that is refused, a list by the line call, and the same list by one call.
+// The runs of a record: a begin that is refused, a list by the line call, and the same list by one call. Coefficients, ledger and
+// answers have the record's lengths.
 ghost use mathlib.Core.Path.{_≡_};
+ghost use mathlib.Core.Bool.{true};
 ghost use Prim.Native.Nat.{_+_, _≤_};
 ghost use lib.ListN.{length};
+ghost use Rattle.oracle_match.specs.Lists.{ListLeft};
 use crate::call;
-use oracle_list::cells_agree;
+use crate::steps::steps;
 use oracle_list::filled;
-use oracle_list::is_number;
-use oracle_list::length_at;
+use oracle_list::filled_bytes;
 use oracle_list::number_at;
+use oracle_list::size_at;
+use oracle_match::is_kept;
+use oracle_match::list_agrees;
 
-// A begin that is to be refused, in cells that are as `before`: whether it was, with the right number, and left all as it was.
-fn is_refused_in(text: &[u8], c: usize, m: usize, before: &[u64], cells: &mut [u64]) -> bool
-    requires { ⌜ (c ≤ m) × (m ≤ c + 1024) × (m ≤ length (now cells)) × (length (now cells) ≤ 3072) ⌝ }
+// A begin that is to be refused: whether it was, with the right number, and left all as it was.
+fn is_refused(
+    text: &[u8],
+    grid: &[f64],
+    samples: &[f64],
+    coeffs: &mut [f64],
+    ledger: &mut [u8],
+    scratch: &mut [f64],
+) -> bool
+    requires { ⌜ (length (now coeffs) ≤ 1024) × (length (now ledger) ≤ 1024) ⌝ }
 {
-    let answer = call::begin(text, c, m, cells);
-    if !is_number(text, 12, answer) {
+    let c = coeffs.len();
+    let l = ledger.len();
+    let kept = filled(0.5, 1.0);
+    let saved = filled_bytes();
+    if call::begin(text, grid, samples, coeffs, ledger, scratch) != number_at(text, 12) {
         return false;
     }
-    oracle_list::same_cells(cells, before)
+    is_kept(coeffs, &kept[..c], ledger, &saved[..l], scratch)
 }
 
-// The same in fresh cells.
-pub fn is_refused(text: &[u8]) -> bool {
-    let c = length_at(text, 9, 1024);
-    let m = c + length_at(text, 10, 1024);
-    let end = m + length_at(text, 11, 1024);
-    let before = filled();
-    let mut cells = filled();
-    is_refused_in(text, c, m, &before[..end], &mut cells[..end])
-}
-
-// The task at word `at` by the line call: whether it answers the task's fourth word, and where that is a refusal leaves all as
-// it was. `cells` are c coefficients, the ledger up to place m, and scratch.
-fn is_step_right(text: &[u8], at: usize, c: usize, m: usize, cells: &mut [u64]) -> bool
-    requires { ⌜ (at ≤ 65536) × (c ≤ m) × (m ≤ c + 1024) × (m ≤ length (now cells)) × (length (now cells) ≤ 3072) ⌝ }
-{
-    let n = cells.len();
-    let before = oracle_list::copy_of(cells);
-    let answer = call::solve_line(text, at, c, m, cells);
-    if !is_number(text, at + 3, answer) {
+// The same on fresh buffers.
+fn is_refused_on(text: &[u8], grid: &[f64], samples: &[f64]) -> bool {
+    let c = size_at(text, 9);
+    let l = size_at(text, 10);
+    let w = size_at(text, 11);
+    if c > 1024 {
         return false;
     }
-    if answer == 0 {
-        return true;
+    if l > 1024 {
+        return false;
     }
-    oracle_list::same_cells(cells, &before[..n])
+    if w > 1024 {
+        return false;
+    }
+    let mut coeffs = filled(0.5, 1.0);
+    let mut ledger = filled_bytes();
+    let mut scratch = filled(-0.25, -1.0);
+    is_refused(
+        text,
+        grid,
+        samples,
+        &mut coeffs[..c],
+        &mut ledger[..l],
+        &mut scratch[..w],
+    )
 }
 
-// The same with scratch of the length that the task says.
-fn is_task_right(text: &[u8], at: usize, c: usize, m: usize, cells: &mut [u64]) -> bool
-    requires { ⌜ (at ≤ 65536) × (c ≤ m) × (c ≤ 1024) × (m ≤ c + 1024) × (length (now cells) ≡ 3072) ⌝ }
+// The same of floats that have been read: the knots before place g, then the samples.
+fn is_begin_refused(text: &[u8], g: usize, floats: &[f64]) -> bool
+    requires { ⌜ g ≤ length (now floats) ⌝ }
 {
-    let end = m + length_at(text, at + 2, 1024);
-    is_step_right(text, at, c, m, &mut cells[..end])
+    is_refused_on(text, &floats[..g], &floats[g..])
 }
 
-// Every task, of n from word `first` on.
-fn are_tasks_right(
+// The same, in a buffer into which the floats are read.
+fn is_begin_refused_in(text: &[u8], g: usize, floats: &mut [f64]) -> bool
+    requires { ⌜ (g ≤ length (now floats)) × (length (now floats) ≤ 2048) ⌝ }
+{
+    oracle_list::read_cells(text, 14, floats);
+    is_begin_refused(text, g, floats)
+}
+
+// A record whose begin is refused, with g knots and s samples: whether all is as it expects.
+pub fn replay_begin(text: &[u8], g: usize, s: usize) -> bool
+    requires { ⌜ (g ≤ 1024) × (s ≤ 1024) ⌝ }
+{
+    let end = g + s;
+    let mut floats = oracle_list::zeros();
+    is_begin_refused_in(text, g, &mut floats[..end])
+}
+
+// Begin, on scratch of length w, and the tasks, from word `first` on, by the line call. The number of begin's answer.
+fn run_lines(
     text: &[u8],
     first: usize,
-    n: usize,
-    c: usize,
-    m: usize,
-    cells: &mut [u64],
-) -> bool
-    requires { ⌜ (first ≤ 8192) × (n ≤ 512) × (c ≤ m) × (c ≤ 1024) × (m ≤ c + 1024) × (length (now cells) ≡ 3072) ⌝ }
+    w: usize,
+    grid: &[f64],
+    samples: &[f64],
+    coeffs: &mut [f64],
+    ledger: &mut [u8],
+    scratch: &mut [f64],
+    told: &mut [u8],
+) -> u64
+    requires { ⌜ (first ≤ 8192) × (w ≤ length (now scratch)) × (length (now coeffs) ≤ 1024) × (length (now ledger) ≤ 1024) × (length (now told) ≤ 512) ⌝ }
 {
-    let mut i: usize = 0;
-    while i < n {
-        if !is_task_right(text, first + i * 4, c, m, cells) {
-            return false;
-        }
-        i += 1;
-    }
-    true
+    let answer = call::begin(text, grid, samples, coeffs, ledger, &scratch[..w]);
+    steps(text, first, grid, coeffs, ledger, scratch, told);
+    answer
 }
 
-// The list by the line call: begin, on scratch of the record's length, and the tasks.
-fn by_lines_in(text: &[u8], first: usize, n: usize, c: usize, m: usize, cells: &mut [u64]) -> bool
-    requires { ⌜ (first ≤ 8192) × (n ≤ 512) × (c ≤ m) × (c ≤ 1024) × (m ≤ c + 1024) × (length (now cells) ≡ 3072) ⌝ }
+// The list by the line call: whether all is as the words from word `first` on say.
+fn by_lines(
+    text: &[u8],
+    first: usize,
+    w: usize,
+    grid: &[f64],
+    samples: &[f64],
+    coeffs: &mut [f64],
+    ledger: &mut [u8],
+    scratch: &mut [f64],
+    told: &mut [u8],
+) -> bool
+    requires { ⌜ (first ≤ 8192) × (w ≤ length (now scratch)) × (length (now coeffs) ≤ 1024) × (length (now ledger) ≤ 1024) × (length (now told) ≤ 512) ⌝ }
+    ensures { λ r. ⌜ (r ≡ true → ListLeft (now (text .entry)) first (now (told .exit)) (now (coeffs .exit)) (now (ledger .exit))) ⌝ }
 {
-    let end = m + length_at(text, 11, 1024);
-    if call::begin(text, c, m, &mut cells[..end]) != 0 {
+    if run_lines(text, first, w, grid, samples, coeffs, ledger, scratch, told) != 0 {
         return false;
     }
-    if !are_tasks_right(text, first, n, c, m, cells) {
-        return false;
-    }
-    cells_agree(text, first + n * 4, 1, &cells[..m])
+    list_agrees(text, first, told, coeffs, ledger)
 }
 
 // Every fourth word from word `first` on; zeros past the last.
@@ -100,46 +136,112 @@ fn column(text: &[u8], first: usize) -> [usize; 512]
     words
 }
 
-// The answers of a list, put into cells, against every fourth word.
-fn are_told(text: &[u8], first: usize, told: &[u8], cells: &mut [u64]) -> bool
-    requires { ⌜ (first ≤ 8192) × (length (now told) ≡ length (now cells)) × (length (now cells) ≤ 512) ⌝ }
-{
-    oracle_list::put_bytes(told, 0, cells);
-    cells_agree(text, first + 3, 4, cells)
-}
-
-// The same in fresh cells.
-fn is_told(text: &[u8], first: usize, told: &[u8]) -> bool
+// The list by one call, on scratch of begin's length. The number of its answer.
+fn run_list(
+    text: &[u8],
+    first: usize,
+    grid: &[f64],
+    samples: &[f64],
+    coeffs: &mut [f64],
+    ledger: &mut [u8],
+    scratch: &mut [f64],
+    told: &mut [u8],
+) -> u64
     requires { ⌜ (first ≤ 8192) × (length (now told) ≤ 512) ⌝ }
-{
-    let n = told.len();
-    let mut cells = filled();
-    are_told(text, first, told, &mut cells[..n])
-}
-
-// The list by one call, on cells that are coefficients and ledger.
-fn by_list_in(text: &[u8], first: usize, c: usize, told: &mut [u8], cells: &mut [u64]) -> bool
-    requires { ⌜ (first ≤ 8192) × (c ≤ length (now cells)) × (length (now cells) ≤ c + 1024) × (c ≤ 1024) × (length (now told) ≤ 512) ⌝ }
 {
     let n = told.len();
     let axes = column(text, first);
     let lines = column(text, first + 1);
-    if call::fit_by_list(text, c, &axes[..n], &lines[..n], told, cells) != 0 {
-        return false;
-    }
-    if !is_told(text, first, told) {
-        return false;
-    }
-    cells_agree(text, first + n * 4, 1, cells)
+    call::fit_by_list(
+        text,
+        grid,
+        samples,
+        &axes[..n],
+        &lines[..n],
+        coeffs,
+        ledger,
+        scratch,
+        told,
+    )
 }
 
-// The same in fresh cells.
-fn by_list(text: &[u8], first: usize, n: usize, c: usize, m: usize) -> bool
-    requires { ⌜ (first ≤ 8192) × (n ≤ 512) × (c ≤ m) × (m ≤ c + 1024) × (c ≤ 1024) ⌝ }
+// Whether all is as the words from word `first` on say.
+fn by_list(
+    text: &[u8],
+    first: usize,
+    grid: &[f64],
+    samples: &[f64],
+    coeffs: &mut [f64],
+    ledger: &mut [u8],
+    scratch: &mut [f64],
+    told: &mut [u8],
+) -> bool
+    requires { ⌜ (first ≤ 8192) × (length (now coeffs) ≤ 1024) × (length (now ledger) ≤ 1024) × (length (now told) ≤ 512) ⌝ }
+    ensures { λ r. ⌜ (r ≡ true → ListLeft (now (text .entry)) first (now (told .exit)) (now (coeffs .exit)) (now (ledger .exit))) ⌝ }
 {
-    let mut told = [0u8; 512];
-    let mut cells = filled();
-    by_list_in(text, first, c, &mut told[..n], &mut cells[..m])
+    if run_list(text, first, grid, samples, coeffs, ledger, scratch, told) != 0 {
+        return false;
+    }
+    list_agrees(text, first, told, coeffs, ledger)
+}
+
+// The list by the line call on fresh buffers: n answers, c coefficients, a ledger of l bytes.
+fn by_lines_on(
+    text: &[u8],
+    first: usize,
+    n: usize,
+    c: usize,
+    l: usize,
+    w: usize,
+    grid: &[f64],
+    samples: &[f64],
+) -> bool
+    requires { ⌜ (first ≤ 8192) × (n ≤ 512) × (c ≤ 1024) × (l ≤ 1024) × (w ≤ 1024) ⌝ }
+{
+    let mut coeffs = filled(0.5, 1.0);
+    let mut ledger = filled_bytes();
+    let mut scratch = filled(-0.25, -1.0);
+    let mut told = filled_bytes();
+    by_lines(
+        text,
+        first,
+        w,
+        grid,
+        samples,
+        &mut coeffs[..c],
+        &mut ledger[..l],
+        &mut scratch,
+        &mut told[..n],
+    )
+}
+
+// The list by one call on fresh buffers.
+fn by_list_on(
+    text: &[u8],
+    first: usize,
+    n: usize,
+    c: usize,
+    l: usize,
+    w: usize,
+    grid: &[f64],
+    samples: &[f64],
+) -> bool
+    requires { ⌜ (first ≤ 8192) × (n ≤ 512) × (c ≤ 1024) × (l ≤ 1024) × (w ≤ 1024) ⌝ }
+{
+    let mut coeffs = filled(0.5, 1.0);
+    let mut ledger = filled_bytes();
+    let mut scratch = filled(-0.25, -1.0);
+    let mut told = filled_bytes();
+    by_list(
+        text,
+        first,
+        grid,
+        samples,
+        &mut coeffs[..c],
+        &mut ledger[..l],
+        &mut scratch[..w],
+        &mut told[..n],
+    )
 }
 
 // Whether some call of the list is answered 4, as its scratch is too short.
@@ -156,25 +258,51 @@ fn has_short(text: &[u8], first: usize, n: usize) -> bool
     false
 }
 
-// The same in fresh cells.
-fn by_lines(text: &[u8], first: usize, n: usize, c: usize, m: usize) -> bool
-    requires { ⌜ (first ≤ 8192) × (n ≤ 512) × (c ≤ m) × (m ≤ c + 1024) × (c ≤ 1024) ⌝ }
+// Both ways; a list with a call whose scratch is too short only by the line call.
+fn both_ways(
+    text: &[u8],
+    first: usize,
+    n: usize,
+    c: usize,
+    l: usize,
+    grid: &[f64],
+    samples: &[f64],
+) -> bool
+    requires { ⌜ (first ≤ 8192) × (n ≤ 512) × (c ≤ 1024) × (l ≤ 1024) ⌝ }
 {
-    let mut cells = filled();
-    by_lines_in(text, first, n, c, m, &mut cells[..3072])
-}
-
-// A record whose begin is accepted, both ways; a list with a call whose scratch is too short only by the line call.
-pub fn is_list_right(text: &[u8]) -> bool {
-    let first = 14 + length_at(text, 7, 1024) + length_at(text, 8, 1024);
-    let n = length_at(text, 13, 512);
-    let c = length_at(text, 9, 1024);
-    let m = c + length_at(text, 10, 1024);
-    if !by_lines(text, first, n, c, m) {
+    let w = size_at(text, 11);
+    if w > 1024 {
+        return false;
+    }
+    if !by_lines_on(text, first, n, c, l, w, grid, samples) {
         return false;
     }
     if has_short(text, first, n) {
         return true;
     }
-    by_list(text, first, n, c, m)
+    by_list_on(text, first, n, c, l, w, grid, samples)
+}
+
+// The same of floats that have been read: the knots before place g, then the samples.
+fn is_list_right(text: &[u8], g: usize, n: usize, c: usize, l: usize, floats: &[f64]) -> bool
+    requires { ⌜ (g ≤ length (now floats)) × (length (now floats) ≤ 2048) × (n ≤ 512) × (c ≤ 1024) × (l ≤ 1024) ⌝ }
+{
+    both_ways(text, 14 + floats.len(), n, c, l, &floats[..g], &floats[g..])
+}
+
+// The same, in a buffer into which the floats are read.
+fn is_list_right_in(text: &[u8], g: usize, n: usize, c: usize, l: usize, floats: &mut [f64]) -> bool
+    requires { ⌜ (g ≤ length (now floats)) × (length (now floats) ≤ 2048) × (n ≤ 512) × (c ≤ 1024) × (l ≤ 1024) ⌝ }
+{
+    oracle_list::read_cells(text, 14, floats);
+    is_list_right(text, g, n, c, l, floats)
+}
+
+// A record whose begin is accepted, with g knots, s samples and n tasks: whether all is as it expects.
+pub fn replay_list(text: &[u8], g: usize, s: usize, n: usize, c: usize, l: usize) -> bool
+    requires { ⌜ (g ≤ 1024) × (s ≤ 1024) × (n ≤ 512) × (c ≤ 1024) × (l ≤ 1024) ⌝ }
+{
+    let end = g + s;
+    let mut floats = oracle_list::zeros();
+    is_list_right_in(text, g, n, c, l, &mut floats[..end])
 }

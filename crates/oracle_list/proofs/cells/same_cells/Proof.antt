@@ -1,35 +1,34 @@
 -- `oracle_list::cells::same_cells` meets its contract. Assumes nothing.
 use Prim.Native.Nat.{_-_}
-use lib.ListN.{length}
-use Rattle.oracle_list.proofs.Alike.{Alike, Alike-start, Alike-step, Alike-done}
-use Rattle.oracle_list.proofs.WordLaws.{not-matched}
+use native.Mathlib.Omega.{arith}
 use borrow.Author.Needs.{needs}
+use lib.ListN.{length}
+use Rattle.float_text.specs.Bits.{sameBits}
+use Rattle.oracle_list.proofs.CellLaws.{Pairs, Pairs-start, Pairs-step, Pairs-bad, Pairs-done, Pairs-length}
 use Rattle.oracle_list.proofs.cells.same_cells.Statement.{statement}
 use Rattle.oracle_list.proofs.cells.same_cells.Tie as tie
 
-abbrev Inv : tie.InvT-loop
-Inv a b i₀ i = Alike a b i
+abbrev Inv-loop : tie.InvT-loop
+Inv-loop a b i₀ i = Pairs sameBits a b i
 
-abbrev μ : tie.MeasureT-loop
-μ a b i₀ i = length a - i
-
-loop-again : tie.Need-loop-again Inv μ
-loop-again c = Alike-step _ _ _ (c .before .before .before .before .loop .inv) (c .before .before .before .loop-test .taken) (search needs) (c .if2 .left)
+abbrev μ-loop : tie.MeasureT-loop
+μ-loop a b i₀ i = length a - i
 
 pub same-cells-spec : {M : Type 1} → statement M
 same-cells-spec =
     tie.close
     (tie.spec
-    Inv
-    μ
-    (λ c. not-matched)
-    (λ c. Alike-start _ _)
+    Inv-loop
+    μ-loop
+    (λ c. Pairs-length _ _ _ (c .if1 .taken))
+    (λ c. Pairs-start _ _ _)
     (λ c. search needs)
     (λ c. search needs)
     (λ c. search needs)
     (λ c. search needs)
-    (λ c. not-matched)
-    (λ c. search needs)
-    (λ c. search needs)
-    loop-again
-    (λ c _. Alike-done _ _ _ (c .before .loop .inv) (c .before .before .if1 .left) (c .loop-test .left)))
+    (λ c κs. search needs)
+    (λ c. search Pairs-bad)
+    (λ c. omega arith)
+    (λ c. omega arith)
+    (λ c. search Pairs-step)
+    (λ c. search Pairs-done))

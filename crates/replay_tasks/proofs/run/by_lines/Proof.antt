@@ -1,6 +1,5 @@
--- `replay_tasks::run::by_lines` is safe and ends. Assumes nothing.
-use native.Mathlib.Omega.{arith}
-use lib.ListN.{length-take}
+-- `replay_tasks::run::by_lines` meets its contract. Assumes nothing.
+use Rattle.oracle_list.proofs.WordLaws.{not-matched}
 use borrow.Author.Needs.{needs}
 use Rattle.replay_tasks.proofs.run.by_lines.Statement.{statement}
 use Rattle.replay_tasks.proofs.run.by_lines.Tie as tie
@@ -11,6 +10,13 @@ by-lines-spec =
     (tie.spec
     (λ c κs. search needs)
     (λ c. search needs)
-    (λ c. simp length-take (omega arith))
-    (λ c κs. simp length-take (search needs))
+    (λ c. search needs)
+    (λ c. search needs)
+    (λ c. search needs)
+    (λ c. not-matched)
+    (λ c κs. search needs)
+    (λ c. search needs)
+    (λ c. search needs)
+    (λ c. search needs)
+    (λ c. search needs)
     (λ c. search needs))

@@ -1,6 +1,5 @@
--- `replay_tasks::run::by_list` is safe and ends. Assumes nothing.
-use native.Mathlib.Omega.{arith}
-use lib.ListN.{length-take}
+-- `replay_tasks::run::by_list` meets its contract. Assumes nothing.
+use Rattle.oracle_list.proofs.WordLaws.{not-matched}
 use borrow.Author.Needs.{needs}
 use Rattle.replay_tasks.proofs.run.by_list.Statement.{statement}
 use Rattle.replay_tasks.proofs.run.by_list.Tie as tie
@@ -11,8 +10,13 @@ by-list-spec =
     (tie.spec
     (λ c κs. search needs)
     (λ c. search needs)
-    (λ c. simp length-take (omega arith))
     (λ c. search needs)
-    (λ c. simp length-take (omega arith))
-    (λ c κs. simp length-take (search needs))
+    (λ c. search needs)
+    (λ c. search needs)
+    (λ c. not-matched)
+    (λ c κs. search needs)
+    (λ c. search needs)
+    (λ c. search needs)
+    (λ c. search needs)
+    (λ c. search needs)
     (λ c. search needs))

@@ -1,6 +1,6 @@
 -- `replay_tasks::run::is_refused` is safe and ends. Assumes nothing.
-use native.Mathlib.Omega.{arith}
 use lib.ListN.{length-take}
+use native.Mathlib.Omega.{arith}
 use borrow.Author.Needs.{needs}
 use Rattle.replay_tasks.proofs.run.is_refused.Statement.{statement}
 use Rattle.replay_tasks.proofs.run.is_refused.Tie as tie
@@ -11,14 +11,18 @@ is-refused-spec =
     (tie.spec
     (λ c κs. search needs)
     (λ c κs. search needs)
+    (λ c κs. search needs)
+    (λ c κs. search needs)
     (λ c. search needs)
-    (λ c κs. search needs)
     (λ c. search needs)
-    (λ c κs. search needs)
-    (λ c κs. search needs)
+    (λ c. search needs)
+    (λ c. search needs)
     (λ c. search needs)
     (λ c. simp length-take (omega arith))
     (λ c. search needs)
     (λ c. simp length-take (omega arith))
-    (λ c κs. simp length-take (search needs))
+    (λ c κs. search needs)
+    (λ c. search needs)
+    (λ c. search needs)
+    (λ c. search needs)
     (λ c. search needs))

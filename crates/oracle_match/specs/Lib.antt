@@ -1,0 +1,4 @@
+pub mod Batches
+pub mod Fits
+pub mod Lists
+pub mod Queries
