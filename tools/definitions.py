@@ -41,6 +41,8 @@ NAME = r"[^\s(){}\[\];:.,=«»⌜⌝λ]+"
 START = re.compile(rf"^( *)(?:(?:abbrev|unfoldable) )?(?:pub )?(?:(record|data) ({NAME})(?= )|({NAME}) :(?= |$))")
 MODULE = re.compile(r"^( *)module _")
 USE = re.compile(r"^(?:ghost )?use Rattle·(\w+?)(?:·\w+)?\.(specs|proofs)\.(\w+)(?:\.\{(.*)\}| as (\w+))?;?$")
+# a list of imported names may go over several lines
+IN_BRACES = re.compile(r"\.\{[^{}]*\}")
 COMMENT = re.compile(r"(?:^|(?<= ))--(?: .*)?$", flags=re.M)
 
 
@@ -48,7 +50,7 @@ COMMENT = re.compile(r"(?:^|(?<= ))--(?: .*)?$", flags=re.M)
 
 def scope_of(text):
     names, files = {}, {}
-    for line in text.splitlines():
+    for line in IN_BRACES.sub(lambda braces: " ".join(braces[0].split()), text).splitlines():
         found = USE.match(line)
         if not found:
             continue

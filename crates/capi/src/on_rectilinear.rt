@@ -54,7 +54,10 @@ pub extern "C" fn corvezan_rectilinear_value(
     x: &[f64],
     value: &mut f64,
 ) -> u32
-    ensures { λ n. ⌜ Wrote (oneAnswer (rectilinearSpline binary64 (now (dims .entry)) (now (grid .entry)) (isOn linear) (now (coeffs .entry))) (now (x .entry))) (rectilinearSpline binary64 (now (dims .entry)) (now (grid .entry)) (isOn linear) (now (coeffs .entry)) .value (query (length (now (dims .entry))) (now (x .entry)) 1 0)) (now (value .entry)) n (now (value .exit)) ⌝ }
+    ensures { λ n. ⌜ Wrote
+        (oneAnswer (rectilinearSpline binary64 (now (dims .entry)) (now (grid .entry)) (isOn linear) (now (coeffs .entry))) (now (x .entry)))
+        (rectilinearSpline binary64 (now (dims .entry)) (now (grid .entry)) (isOn linear) (now (coeffs .entry)) .value (query (length (now (dims .entry))) (now (x .entry)) 1 0))
+        (now (value .entry)) n (now (value .exit)) ⌝ }
 {
     let built = rectilinear_map_of(dims, grid, linear);
     let answer = built.answer;
@@ -75,7 +78,10 @@ pub extern "C" fn corvezan_rectilinear_gradient(
     x: &[f64],
     slopes: &mut [f64],
 ) -> u32
-    ensures { λ n. ⌜ Wrote (oneAnswer (withSlopes (length (now (slopes .entry))) (rectilinearSpline binary64 (now (dims .entry)) (now (grid .entry)) (isOn linear) (now (coeffs .entry)))) (now (x .entry))) (gradientStep (rectilinearSpline binary64 (now (dims .entry)) (now (grid .entry)) (isOn linear) (now (coeffs .entry))) (now (x .entry)) 1 0 (now (slopes .entry))) (now (slopes .entry)) n (now (slopes .exit)) ⌝ }
+    ensures { λ n. ⌜ Wrote
+        (oneAnswer (withSlopes (length (now (slopes .entry))) (rectilinearSpline binary64 (now (dims .entry)) (now (grid .entry)) (isOn linear) (now (coeffs .entry)))) (now (x .entry)))
+        (gradientStep (rectilinearSpline binary64 (now (dims .entry)) (now (grid .entry)) (isOn linear) (now (coeffs .entry))) (now (x .entry)) 1 0 (now (slopes .entry)))
+        (now (slopes .entry)) n (now (slopes .exit)) ⌝ }
 {
     if slopes.len() != dims.len() {
         return else_mismatch(corvezan_rectilinear_check(dims, grid, coeffs.len()));

@@ -91,7 +91,10 @@ pub extern "C" fn corvezan_regular_value(
     x: &[f64],
     value: &mut f64,
 ) -> u32
-    ensures { λ n. ⌜ Wrote (oneAnswer (regularSpline binary64 (now (dims .entry)) (now (grid .entry)) (isOn linear) (now (coeffs .entry))) (now (x .entry))) (regularSpline binary64 (now (dims .entry)) (now (grid .entry)) (isOn linear) (now (coeffs .entry)) .value (query (length (now (dims .entry))) (now (x .entry)) 1 0)) (now (value .entry)) n (now (value .exit)) ⌝ }
+    ensures { λ n. ⌜ Wrote
+        (oneAnswer (regularSpline binary64 (now (dims .entry)) (now (grid .entry)) (isOn linear) (now (coeffs .entry))) (now (x .entry)))
+        (regularSpline binary64 (now (dims .entry)) (now (grid .entry)) (isOn linear) (now (coeffs .entry)) .value (query (length (now (dims .entry))) (now (x .entry)) 1 0))
+        (now (value .entry)) n (now (value .exit)) ⌝ }
 {
     let refused = number(check_grid(dims, grid));
     if refused != 0 {
@@ -110,7 +113,10 @@ pub extern "C" fn corvezan_regular_gradient(
     x: &[f64],
     slopes: &mut [f64],
 ) -> u32
-    ensures { λ n. ⌜ Wrote (oneAnswer (withSlopes (length (now (slopes .entry))) (regularSpline binary64 (now (dims .entry)) (now (grid .entry)) (isOn linear) (now (coeffs .entry)))) (now (x .entry))) (gradientStep (regularSpline binary64 (now (dims .entry)) (now (grid .entry)) (isOn linear) (now (coeffs .entry))) (now (x .entry)) 1 0 (now (slopes .entry))) (now (slopes .entry)) n (now (slopes .exit)) ⌝ }
+    ensures { λ n. ⌜ Wrote
+        (oneAnswer (withSlopes (length (now (slopes .entry))) (regularSpline binary64 (now (dims .entry)) (now (grid .entry)) (isOn linear) (now (coeffs .entry)))) (now (x .entry)))
+        (gradientStep (regularSpline binary64 (now (dims .entry)) (now (grid .entry)) (isOn linear) (now (coeffs .entry))) (now (x .entry)) 1 0 (now (slopes .entry)))
+        (now (slopes .entry)) n (now (slopes .exit)) ⌝ }
 {
     if slopes.len() != dims.len() {
         return else_mismatch(corvezan_regular_check(dims, grid, coeffs.len()));

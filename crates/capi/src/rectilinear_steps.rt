@@ -16,7 +16,9 @@ pub extern "C" fn corvezan_rectilinear_begin(
     ledger: &mut [u8],
     scratch_len: usize,
 ) -> u32
-    ensures { λ n. ⌜ RectilinearBegun (length (now (dims .entry))) (lensOf (now (dims .entry))) (now (grid .entry)) (now (vals .entry)) (stateOf (now (coeffs .entry)) (now (ledger .entry))) «scratch_len» n (stateOf (now (coeffs .exit)) (now (ledger .exit))) ⌝ }
+    ensures { λ n. ⌜ RectilinearBegun (length (now (dims .entry))) (lensOf (now (dims .entry))) (now (grid .entry)) (now (vals .entry))
+        (stateOf (now (coeffs .entry)) (now (ledger .entry))) «scratch_len» n
+        (stateOf (now (coeffs .exit)) (now (ledger .exit))) ⌝ }
 {
     let shape = shape_of(dims);
     let lens = shape.dims;
@@ -41,7 +43,9 @@ pub extern "C" fn corvezan_rectilinear_line(
     ledger: &mut [u8],
     scratch: &mut [f64],
 ) -> u32
-    ensures { λ n. ⌜ RectilinearLineCalled binary64 (length (now (dims .entry))) (lensOf (now (dims .entry))) (now (grid .entry)) (callOf axis line (now (scratch .entry))) (stateOf (now (coeffs .entry)) (now (ledger .entry))) n (stateOf (now (coeffs .exit)) (now (ledger .exit))) (now (scratch .exit)) ⌝ }
+    ensures { λ n. ⌜ RectilinearLineCalled binary64 (length (now (dims .entry))) (lensOf (now (dims .entry))) (now (grid .entry))
+        (callOf axis line (now (scratch .entry))) (stateOf (now (coeffs .entry)) (now (ledger .entry))) n
+        (stateOf (now (coeffs .exit)) (now (ledger .exit))) (now (scratch .exit)) ⌝ }
 {
     let shape = shape_of(dims);
     number(stepwise::solve_rectilinear_line(shape, grid, axis, line, coeffs, ledger, scratch))
@@ -59,7 +63,10 @@ pub extern "C" fn corvezan_rectilinear_list(
     scratch: &mut [f64],
     answers: &mut [u8],
 ) -> u32
-    ensures { λ n. ⌜ RectilinearRan binary64 (length (now (dims .entry))) (lensOf (now (dims .entry))) (now (grid .entry)) (now (vals .entry)) (now («task_axes» .entry)) (now («task_lines» .entry)) (stateOf (now (coeffs .entry)) (now (ledger .entry))) (now (scratch .entry)) (now (answers .entry)) n (stateOf (now (coeffs .exit)) (now (ledger .exit))) (now (scratch .exit)) (now (answers .exit)) ⌝ }
+    ensures { λ n. ⌜ RectilinearRan binary64 (length (now (dims .entry))) (lensOf (now (dims .entry))) (now (grid .entry))
+        (now (vals .entry)) (now («task_axes» .entry)) (now («task_lines» .entry))
+        (stateOf (now (coeffs .entry)) (now (ledger .entry))) (now (scratch .entry)) (now (answers .entry)) n
+        (stateOf (now (coeffs .exit)) (now (ledger .exit))) (now (scratch .exit)) (now (answers .exit)) ⌝ }
 {
     let shape = shape_of(dims);
     number(stepwise::fit_rectilinear_by_list(

@@ -31,7 +31,9 @@ pub extern "C" fn corvezan_regular_line(
     ledger: &mut [u8],
     scratch: &mut [f64],
 ) -> u32
-    ensures { λ n. ⌜ RegularLineCalled binary64 (length (now (dims .entry))) (lensOf (now (dims .entry))) (callOf axis line (now (scratch .entry))) (stateOf (now (coeffs .entry)) (now (ledger .entry))) n (stateOf (now (coeffs .exit)) (now (ledger .exit))) (now (scratch .exit)) ⌝ }
+    ensures { λ n. ⌜ RegularLineCalled binary64 (length (now (dims .entry))) (lensOf (now (dims .entry)))
+        (callOf axis line (now (scratch .entry))) (stateOf (now (coeffs .entry)) (now (ledger .entry))) n
+        (stateOf (now (coeffs .exit)) (now (ledger .exit))) (now (scratch .exit)) ⌝ }
 {
     let shape = shape_of(dims);
     number(stepwise::solve_regular_line(shape, axis, line, coeffs, ledger, scratch))
@@ -48,7 +50,10 @@ pub extern "C" fn corvezan_regular_list(
     scratch: &mut [f64],
     answers: &mut [u8],
 ) -> u32
-    ensures { λ n. ⌜ RegularRan binary64 (length (now (dims .entry))) (lensOf (now (dims .entry))) (now (vals .entry)) (now («task_axes» .entry)) (now («task_lines» .entry)) (stateOf (now (coeffs .entry)) (now (ledger .entry))) (now (scratch .entry)) (now (answers .entry)) n (stateOf (now (coeffs .exit)) (now (ledger .exit))) (now (scratch .exit)) (now (answers .exit)) ⌝ }
+    ensures { λ n. ⌜ RegularRan binary64 (length (now (dims .entry))) (lensOf (now (dims .entry))) (now (vals .entry))
+        (now («task_axes» .entry)) (now («task_lines» .entry)) (stateOf (now (coeffs .entry)) (now (ledger .entry)))
+        (now (scratch .entry)) (now (answers .entry)) n (stateOf (now (coeffs .exit)) (now (ledger .exit)))
+        (now (scratch .exit)) (now (answers .exit)) ⌝ }
 {
     let shape = shape_of(dims);
     number(stepwise::fit_regular_by_list(

@@ -53,7 +53,9 @@ pub fn regular_map_of(dims: &[usize], grid: &[f64], linear: u32) -> MultiBspline
 
 // The rectilinear map, once the shape and the length of the grid are found right. Its knots are looked at by the call that asks it.
 pub fn rectilinear_map_of(dims: &[usize], grid: &[f64], linear: u32) -> Built
-    ensures { λ r. ⌜ Handed (gridAnswer (length (now (dims .entry))) (lensOf (now (dims .entry))) (now (grid .entry))) (rectilinearMap binary64 (now (dims .entry)) (now (grid .entry)) (isOn linear)) (answerNumber (r .answer)) (mapOf (r .map)) ⌝ }
+    ensures { λ r. ⌜ Handed (gridAnswer (length (now (dims .entry))) (lensOf (now (dims .entry))) (now (grid .entry)))
+        (rectilinearMap binary64 (now (dims .entry)) (now (grid .entry)) (isOn linear)) (answerNumber (r .answer))
+        (mapOf (r .map)) ⌝ }
 {
     let shape = shape_of(dims);
     MultiBsplineRectilinear::of_grid(shape, grid, linear != 0)

@@ -78,7 +78,8 @@ fn make_rectilinear(
     scratch: &mut [f64],
 ) -> rectilinear_map::Built
     requires { ⌜ Lent (line .count) (line .dims) (total (take (line .count) (line .dims))) (length (now row)) (length (now samples)) (length (now coeffs)) (length (now scratch)) ⌝ }
-    ensures { λ r. ⌜ RectilinearMade (headOf line) (now (row .entry)) (now (samples .entry)) (now (coeffs .entry)) (answerNumber (r .answer)) (rectilinearSurface binary64 (Rectilinear.mapOf (r .map)) (now (row .entry)) (now (coeffs .exit))) ⌝ }
+    ensures { λ r. ⌜ RectilinearMade (headOf line) (now (row .entry)) (now (samples .entry)) (now (coeffs .entry)) (answerNumber (r .answer))
+        (rectilinearSurface binary64 (Rectilinear.mapOf (r .map)) (now (row .entry)) (now (coeffs .exit))) ⌝ }
 {
     let count = line.count;
     let dims = line.dims;
@@ -121,7 +122,9 @@ fn make_even(line: FirstLine, row: &[f64], samples: &[f64], coeffs: &mut [f64]) 
 
 fn make_uneven(line: FirstLine, row: &[f64], samples: &[f64], coeffs: &mut [f64]) -> Made
     requires { ⌜ Lent (line .count) (line .dims) (total (take (line .count) (line .dims))) (length (now row)) (length (now samples)) (length (now coeffs)) 1024 ⌝ }
-    ensures { λ r. ⌜ RectilinearMade (headOf line) (now (row .entry)) (now (samples .entry)) (now (coeffs .entry)) (r .number) (rectilinearSurface binary64 (Rectilinear.mapOf (r .map .uneven)) (now (row .entry)) (now (coeffs .exit))) × (r .map .regular ≡ false) ⌝ }
+    ensures { λ r. ⌜ RectilinearMade (headOf line) (now (row .entry)) (now (samples .entry)) (now (coeffs .entry)) (r .number)
+        (rectilinearSurface binary64 (Rectilinear.mapOf (r .map .uneven)) (now (row .entry)) (now (coeffs .exit)))
+        × (r .map .regular ≡ false) ⌝ }
 {
     let mut scratch = workspace();
     let built = make_rectilinear(line, row, samples, coeffs, &mut scratch);

@@ -77,7 +77,10 @@ fn solve_nth(
 )
     requires { ⌜ (l < lines) × LinesWithin (length (now grid)) s lines m (length (now coeffs)) (length (now scratch)) ⌝ }
     ensures { λ _. ⌜ now (coeffs .exit) ≡ solveLine nan (coefficient binary64 (now (grid .entry)) (ghostNumbers «low_ghost») (ghostNumbers «high_ghost»)) (length (now (grid .entry))) s l (now (coeffs .entry)) ⌝ }
-    ensures { λ _. ⌜ now (scratch .exit) ≡ lineLeaves nan (upperNumber binary64 (now (grid .entry)) (ghostNumbers «low_ghost») (ghostNumbers «high_ghost»)) (coefficient binary64 (now (grid .entry)) (ghostNumbers «low_ghost») (ghostNumbers «high_ghost»)) (length (now (grid .entry))) s m l (now (coeffs .entry)) (now (scratch .entry)) ⌝ }
+    ensures { λ _. ⌜ now (scratch .exit) ≡ lineLeaves nan
+        (upperNumber binary64 (now (grid .entry)) (ghostNumbers «low_ghost») (ghostNumbers «high_ghost»))
+        (coefficient binary64 (now (grid .entry)) (ghostNumbers «low_ghost») (ghostNumbers «high_ghost»))
+        (length (now (grid .entry))) s m l (now (coeffs .entry)) (now (scratch .entry)) ⌝ }
 {
     let base = first_cell_of(grid.len(), s, l);
     solve_checked(grid, low_ghost, high_ghost, base, s, m, coeffs, scratch);
@@ -118,7 +121,10 @@ fn solve_many(
     requires { ⌜ (0 < lines) × LinesWithin (length (now grid)) s lines m (length (now coeffs)) (length (now scratch)) ⌝ }
     requires { ⌜ lines / s * s ≡ lines ⌝ }
     ensures { λ _. ⌜ now (coeffs .exit) ≡ solveLines nan (coefficient binary64 (now (grid .entry)) (ghostNumbers «low_ghost») (ghostNumbers «high_ghost»)) (length (now (grid .entry))) s lines (now (coeffs .entry)) ⌝ }
-    ensures { λ _. ⌜ now (scratch .exit) ≡ lineLeaves nan (upperNumber binary64 (now (grid .entry)) (ghostNumbers «low_ghost») (ghostNumbers «high_ghost»)) (coefficient binary64 (now (grid .entry)) (ghostNumbers «low_ghost») (ghostNumbers «high_ghost»)) (length (now (grid .entry))) s m (lines - 1) (now (coeffs .entry)) (now (scratch .entry)) ⌝ }
+    ensures { λ _. ⌜ now (scratch .exit) ≡ lineLeaves nan
+        (upperNumber binary64 (now (grid .entry)) (ghostNumbers «low_ghost») (ghostNumbers «high_ghost»))
+        (coefficient binary64 (now (grid .entry)) (ghostNumbers «low_ghost») (ghostNumbers «high_ghost»))
+        (length (now (grid .entry))) s m (lines - 1) (now (coeffs .entry)) (now (scratch .entry)) ⌝ }
 {
     let n = grid.len();
     upper_numbers(grid, low_ghost, high_ghost, scratch);
@@ -142,7 +148,10 @@ fn solve_lines(
     requires { ⌜ (0 < lines) × LinesWithin (length (now grid)) s lines m (length (now coeffs)) (length (now scratch)) ⌝ }
     requires { ⌜ lines / s * s ≡ lines ⌝ }
     ensures { λ _. ⌜ now (coeffs .exit) ≡ solveLines nan (coefficient binary64 (now (grid .entry)) (ghostNumbers «low_ghost») (ghostNumbers «high_ghost»)) (length (now (grid .entry))) s lines (now (coeffs .entry)) ⌝ }
-    ensures { λ _. ⌜ now (scratch .exit) ≡ lineLeaves nan (upperNumber binary64 (now (grid .entry)) (ghostNumbers «low_ghost») (ghostNumbers «high_ghost»)) (coefficient binary64 (now (grid .entry)) (ghostNumbers «low_ghost») (ghostNumbers «high_ghost»)) (length (now (grid .entry))) s m (lines - 1) (now (coeffs .entry)) (now (scratch .entry)) ⌝ }
+    ensures { λ _. ⌜ now (scratch .exit) ≡ lineLeaves nan
+        (upperNumber binary64 (now (grid .entry)) (ghostNumbers «low_ghost») (ghostNumbers «high_ghost»))
+        (coefficient binary64 (now (grid .entry)) (ghostNumbers «low_ghost») (ghostNumbers «high_ghost»))
+        (length (now (grid .entry))) s m (lines - 1) (now (coeffs .entry)) (now (scratch .entry)) ⌝ }
 {
     if lines == 1 {
         solve_nth(grid, low_ghost, high_ghost, s, lines, m, 0, coeffs, scratch);

@@ -123,7 +123,10 @@ fn inner_rows(
     requires { ⌜ (4 ≤ length (now grid)) × (onLine base stride (length (now grid) - 1) < length (now coeffs)) ⌝ }
     requires { ⌜ (length (now grid) ≤ m) × (m + length (now grid) ≤ length (now scratch)) ⌝ }
     ensures { λ r. ⌜ reducedOf r ≡ Thomas.forward binary64 (reducedOf «first») (innerRow binary64 (now (grid .entry)) (line nan base stride (now (coeffs .entry)))) (length (now (grid .entry)) - 2) ⌝ }
-    ensures { λ r. ⌜ now (scratch .exit) ≡ lineScratch m (λ k. Thomas.forward binary64 (reducedOf «first») (innerRow binary64 (now (grid .entry)) (line nan base stride (now (coeffs .entry)))) k .upper) (λ k. Thomas.forward binary64 (reducedOf «first») (innerRow binary64 (now (grid .entry)) (line nan base stride (now (coeffs .entry)))) k .right) (length (now (grid .entry)) - 1) (now (scratch .entry)) ⌝ }
+    ensures { λ r. ⌜ now (scratch .exit) ≡ lineScratch m
+        (λ k. Thomas.forward binary64 (reducedOf «first») (innerRow binary64 (now (grid .entry)) (line nan base stride (now (coeffs .entry)))) k .upper)
+        (λ k. Thomas.forward binary64 (reducedOf «first») (innerRow binary64 (now (grid .entry)) (line nan base stride (now (coeffs .entry)))) k .right)
+        (length (now (grid .entry)) - 1) (now (scratch .entry)) ⌝ }
 {
     keep_row(0, m, first, scratch);
     let last = grid.len() - 1;
@@ -147,7 +150,9 @@ fn last_row(
 )
     requires { ⌜ (4 ≤ length (now grid)) × (onLine base stride (length (now grid) - 1) < length (now coeffs)) ⌝ }
     requires { ⌜ (length (now grid) ≤ m) × (m + length (now grid) ≤ length (now scratch)) ⌝ }
-    ensures { λ _. ⌜ now (scratch .exit) ≡ withReduced m (length (now (grid .entry)) - 1) (reduce binary64 (lastRow binary64 (now (grid .entry)) (ghostNumbers «high_ghost») (line nan base stride (now (coeffs .entry)))) (reducedOf «before»)) (now (scratch .entry)) ⌝ }
+    ensures { λ _. ⌜ now (scratch .exit) ≡ withReduced m (length (now (grid .entry)) - 1)
+        (reduce binary64 (lastRow binary64 (now (grid .entry)) (ghostNumbers «high_ghost») (line nan base stride (now (coeffs .entry)))) (reducedOf «before»))
+        (now (scratch .entry)) ⌝ }
 {
     let n = grid.len();
     let w = at_knot(grid, n - 2, n - 1);
@@ -180,7 +185,10 @@ fn forward(
 )
     requires { ⌜ (4 ≤ length (now grid)) × (onLine base stride (length (now grid) - 1) < length (now coeffs)) ⌝ }
     requires { ⌜ (length (now grid) ≤ m) × (m + length (now grid) ≤ length (now scratch)) ⌝ }
-    ensures { λ _. ⌜ now (scratch .exit) ≡ lineScratch m (upperNumber binary64 (now (grid .entry)) (ghostNumbers «low_ghost») (ghostNumbers «high_ghost») (line nan base stride (now (coeffs .entry)))) (λ i. reduced binary64 (now (grid .entry)) (ghostNumbers «low_ghost») (ghostNumbers «high_ghost») (line nan base stride (now (coeffs .entry))) i .right) (length (now (grid .entry))) (now (scratch .entry)) ⌝ }
+    ensures { λ _. ⌜ now (scratch .exit) ≡ lineScratch m
+        (upperNumber binary64 (now (grid .entry)) (ghostNumbers «low_ghost») (ghostNumbers «high_ghost») (line nan base stride (now (coeffs .entry))))
+        (λ i. reduced binary64 (now (grid .entry)) (ghostNumbers «low_ghost») (ghostNumbers «high_ghost») (line nan base stride (now (coeffs .entry))) i .right)
+        (length (now (grid .entry))) (now (scratch .entry)) ⌝ }
 {
     let first = first_row(grid, low_ghost, base, stride, coeffs);
     let before = inner_rows(grid, base, stride, m, first, coeffs, scratch);
@@ -200,8 +208,13 @@ pub fn solve_checked(
 )
     requires { ⌜ (4 ≤ length (now grid)) × (onLine base stride (length (now grid) - 1) < length (now coeffs)) ⌝ }
     requires { ⌜ (length (now grid) ≤ m) × (m + length (now grid) ≤ length (now scratch)) ⌝ }
-    ensures { λ _. ⌜ now (coeffs .exit) ≡ writeLine base stride (coefficient binary64 (now (grid .entry)) (ghostNumbers «low_ghost») (ghostNumbers «high_ghost») (line nan base stride (now (coeffs .entry)))) (length (now (grid .entry))) (now (coeffs .entry)) ⌝ }
-    ensures { λ _. ⌜ now (scratch .exit) ≡ lineScratch m (upperNumber binary64 (now (grid .entry)) (ghostNumbers «low_ghost») (ghostNumbers «high_ghost») (line nan base stride (now (coeffs .entry)))) (coefficient binary64 (now (grid .entry)) (ghostNumbers «low_ghost») (ghostNumbers «high_ghost») (line nan base stride (now (coeffs .entry)))) (length (now (grid .entry))) (now (scratch .entry)) ⌝ }
+    ensures { λ _. ⌜ now (coeffs .exit) ≡ writeLine base stride
+        (coefficient binary64 (now (grid .entry)) (ghostNumbers «low_ghost») (ghostNumbers «high_ghost») (line nan base stride (now (coeffs .entry))))
+        (length (now (grid .entry))) (now (coeffs .entry)) ⌝ }
+    ensures { λ _. ⌜ now (scratch .exit) ≡ lineScratch m
+        (upperNumber binary64 (now (grid .entry)) (ghostNumbers «low_ghost») (ghostNumbers «high_ghost») (line nan base stride (now (coeffs .entry))))
+        (coefficient binary64 (now (grid .entry)) (ghostNumbers «low_ghost») (ghostNumbers «high_ghost») (line nan base stride (now (coeffs .entry))))
+        (length (now (grid .entry))) (now (scratch .entry)) ⌝ }
 {
     forward(
         grid,
@@ -229,7 +242,8 @@ pub fn solve_line(
     coeffs: &mut [f64],
     scratch: &mut [f64],
 ) -> Answer
-    ensures { λ r. ⌜ LineSolved binary64 (now (grid .entry)) (ghostNumbers «low_ghost») (ghostNumbers «high_ghost») base stride longest (now (coeffs .entry)) (now (scratch .entry)) (answerNumber r) (now (coeffs .exit)) (now (scratch .exit)) ⌝ }
+    ensures { λ r. ⌜ LineSolved binary64 (now (grid .entry)) (ghostNumbers «low_ghost») (ghostNumbers «high_ghost») base stride longest
+        (now (coeffs .entry)) (now (scratch .entry)) (answerNumber r) (now (coeffs .exit)) (now (scratch .exit)) ⌝ }
 {
     if let Answer::Refused(refusal) = check_line(
         base,

@@ -22,7 +22,10 @@ use rectilinear_weights::Ghost;
 // The last row's difference.
 fn bundle_high_row(grid: &[f64], high_ghost: Ghost, m: usize, first: usize, coeffs: &mut [f64])
     requires { ⌜ Lanes (length (now grid)) 1 first (length (now grid)) m (length (now coeffs)) ⌝ }
-    ensures { λ _. ⌜ now (coeffs .exit) ≡ swept (highAt binary64 (now (grid .entry)) (ghostNumbers «high_ghost»)) (onLine (first * length (now (grid .entry))) 1 (length (now (grid .entry)) - 1)) (onLine (first * length (now (grid .entry))) 1 (length (now (grid .entry)) - 2)) (length (now (grid .entry))) m (now (coeffs .entry)) ⌝ }
+    ensures { λ _. ⌜ now (coeffs .exit) ≡ swept (highAt binary64 (now (grid .entry)) (ghostNumbers «high_ghost»))
+        (onLine (first * length (now (grid .entry))) 1 (length (now (grid .entry)) - 1))
+        (onLine (first * length (now (grid .entry))) 1 (length (now (grid .entry)) - 2)) (length (now (grid .entry))) m
+        (now (coeffs .entry)) ⌝ }
 {
     let n = grid.len();
     let end = high_end(grid, high_ghost);
@@ -32,7 +35,9 @@ fn bundle_high_row(grid: &[f64], high_ghost: Ghost, m: usize, first: usize, coef
 // The first row.
 fn bundle_low_row(grid: &[f64], low_ghost: Ghost, m: usize, first: usize, coeffs: &mut [f64])
     requires { ⌜ Lanes (length (now grid)) 1 first (length (now grid)) m (length (now coeffs)) ⌝ }
-    ensures { λ _. ⌜ now (coeffs .exit) ≡ swept (lowAt binary64 (now (grid .entry)) (ghostNumbers «low_ghost»)) (onLine (first * length (now (grid .entry))) 1 0) (onLine (first * length (now (grid .entry))) 1 1) (length (now (grid .entry))) m (now (coeffs .entry)) ⌝ }
+    ensures { λ _. ⌜ now (coeffs .exit) ≡ swept (lowAt binary64 (now (grid .entry)) (ghostNumbers «low_ghost»))
+        (onLine (first * length (now (grid .entry))) 1 0) (onLine (first * length (now (grid .entry))) 1 1)
+        (length (now (grid .entry))) m (now (coeffs .entry)) ⌝ }
 {
     let n = grid.len();
     let end = low_end(grid, low_ghost);
@@ -50,7 +55,9 @@ fn bundle_inner_row(
 )
     requires { ⌜ (0 < i) × (i + 1 < length (now grid)) × (length (now grid) ≤ length (now upper)) ⌝ }
     requires { ⌜ Lanes (length (now grid)) 1 first (length (now grid)) m (length (now coeffs)) ⌝ }
-    ensures { λ _. ⌜ now (coeffs .exit) ≡ swept (innerAt binary64 (now (grid .entry)) (now (upper .entry)) i) (onLine (first * length (now (grid .entry))) 1 i) (onLine (first * length (now (grid .entry))) 1 (i - 1)) (length (now (grid .entry))) m (now (coeffs .entry)) ⌝ }
+    ensures { λ _. ⌜ now (coeffs .exit) ≡ swept (innerAt binary64 (now (grid .entry)) (now (upper .entry)) i)
+        (onLine (first * length (now (grid .entry))) 1 i) (onLine (first * length (now (grid .entry))) 1 (i - 1))
+        (length (now (grid .entry))) m (now (coeffs .entry)) ⌝ }
 {
     let n = grid.len();
     let w = at_knot(grid, i, i);
@@ -69,7 +76,10 @@ fn bundle_last_row(
 )
     requires { ⌜ length (now grid) ≤ length (now upper) ⌝ }
     requires { ⌜ Lanes (length (now grid)) 1 first (length (now grid)) m (length (now coeffs)) ⌝ }
-    ensures { λ _. ⌜ now (coeffs .exit) ≡ swept (lastAt binary64 (now (grid .entry)) (ghostNumbers «high_ghost») (now (upper .entry))) (onLine (first * length (now (grid .entry))) 1 (length (now (grid .entry)) - 1)) (onLine (first * length (now (grid .entry))) 1 (length (now (grid .entry)) - 2)) (length (now (grid .entry))) m (now (coeffs .entry)) ⌝ }
+    ensures { λ _. ⌜ now (coeffs .exit) ≡ swept (lastAt binary64 (now (grid .entry)) (ghostNumbers «high_ghost») (now (upper .entry)))
+        (onLine (first * length (now (grid .entry))) 1 (length (now (grid .entry)) - 1))
+        (onLine (first * length (now (grid .entry))) 1 (length (now (grid .entry)) - 2)) (length (now (grid .entry))) m
+        (now (coeffs .entry)) ⌝ }
 {
     let n = grid.len();
     let end = high_end(grid, high_ghost);

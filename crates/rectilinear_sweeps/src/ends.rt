@@ -52,8 +52,13 @@ pub fn low_end(grid: &[f64], low_ghost: Ghost) -> End
 // The last row.
 pub fn high_end(grid: &[f64], high_ghost: Ghost) -> End
     requires { ⌜ 4 ≤ length (now grid) ⌝ }
-    ensures { λ r. ⌜ r .factor ≡ highFactor binary64 (atKnot binary64 (now (grid .entry)) (length (now (grid .entry)) - 2) (length (now (grid .entry)) - 1)) (atKnot binary64 (now (grid .entry)) (length (now (grid .entry)) - 2) (length (now (grid .entry)) - 2)) (ghostNumbers «high_ghost») ⌝ }
-    ensures { λ r. ⌜ (r .lower ≡ highNumbers binary64 (now (grid .entry)) (ghostNumbers «high_ghost») .lower) × (r .diag ≡ highNumbers binary64 (now (grid .entry)) (ghostNumbers «high_ghost») .diag) × (r .upper ≡ highNumbers binary64 (now (grid .entry)) (ghostNumbers «high_ghost») .upper) ⌝ }
+    ensures { λ r. ⌜ r .factor ≡ highFactor binary64
+        (atKnot binary64 (now (grid .entry)) (length (now (grid .entry)) - 2) (length (now (grid .entry)) - 1))
+        (atKnot binary64 (now (grid .entry)) (length (now (grid .entry)) - 2) (length (now (grid .entry)) - 2))
+        (ghostNumbers «high_ghost») ⌝ }
+    ensures { λ r. ⌜ (r .lower ≡ highNumbers binary64 (now (grid .entry)) (ghostNumbers «high_ghost») .lower)
+        × (r .diag ≡ highNumbers binary64 (now (grid .entry)) (ghostNumbers «high_ghost») .diag)
+        × (r .upper ≡ highNumbers binary64 (now (grid .entry)) (ghostNumbers «high_ghost») .upper) ⌝ }
 {
     let n = grid.len();
     let w = at_knot(grid, n - 2, n - 1);

@@ -23,7 +23,9 @@ use rectilinear_weights::Ghost;
 // The last row's difference.
 fn slab_high_row(grid: &[f64], high_ghost: Ghost, s: usize, first: usize, coeffs: &mut [f64])
     requires { ⌜ Lanes (length (now grid)) s first 1 s (length (now coeffs)) ⌝ }
-    ensures { λ _. ⌜ now (coeffs .exit) ≡ swept (highAt binary64 (now (grid .entry)) (ghostNumbers «high_ghost»)) (onLine (first * length (now (grid .entry))) s (length (now (grid .entry)) - 1)) (onLine (first * length (now (grid .entry))) s (length (now (grid .entry)) - 2)) 1 s (now (coeffs .entry)) ⌝ }
+    ensures { λ _. ⌜ now (coeffs .exit) ≡ swept (highAt binary64 (now (grid .entry)) (ghostNumbers «high_ghost»))
+        (onLine (first * length (now (grid .entry))) s (length (now (grid .entry)) - 1))
+        (onLine (first * length (now (grid .entry))) s (length (now (grid .entry)) - 2)) 1 s (now (coeffs .entry)) ⌝ }
 {
     let n = grid.len();
     let end = high_end(grid, high_ghost);
@@ -33,7 +35,9 @@ fn slab_high_row(grid: &[f64], high_ghost: Ghost, s: usize, first: usize, coeffs
 // The first row.
 fn slab_low_row(grid: &[f64], low_ghost: Ghost, s: usize, first: usize, coeffs: &mut [f64])
     requires { ⌜ Lanes (length (now grid)) s first 1 s (length (now coeffs)) ⌝ }
-    ensures { λ _. ⌜ now (coeffs .exit) ≡ swept (lowAt binary64 (now (grid .entry)) (ghostNumbers «low_ghost»)) (onLine (first * length (now (grid .entry))) s 0) (onLine (first * length (now (grid .entry))) s 1) 1 s (now (coeffs .entry)) ⌝ }
+    ensures { λ _. ⌜ now (coeffs .exit) ≡ swept (lowAt binary64 (now (grid .entry)) (ghostNumbers «low_ghost»))
+        (onLine (first * length (now (grid .entry))) s 0) (onLine (first * length (now (grid .entry))) s 1) 1 s
+        (now (coeffs .entry)) ⌝ }
 {
     let n = grid.len();
     let end = low_end(grid, low_ghost);
@@ -44,7 +48,9 @@ fn slab_low_row(grid: &[f64], low_ghost: Ghost, s: usize, first: usize, coeffs: 
 fn slab_inner_row(grid: &[f64], s: usize, first: usize, i: usize, upper: &[f64], coeffs: &mut [f64])
     requires { ⌜ (0 < i) × (i + 1 < length (now grid)) × (length (now grid) ≤ length (now upper)) ⌝ }
     requires { ⌜ Lanes (length (now grid)) s first 1 s (length (now coeffs)) ⌝ }
-    ensures { λ _. ⌜ now (coeffs .exit) ≡ swept (innerAt binary64 (now (grid .entry)) (now (upper .entry)) i) (onLine (first * length (now (grid .entry))) s i) (onLine (first * length (now (grid .entry))) s (i - 1)) 1 s (now (coeffs .entry)) ⌝ }
+    ensures { λ _. ⌜ now (coeffs .exit) ≡ swept (innerAt binary64 (now (grid .entry)) (now (upper .entry)) i)
+        (onLine (first * length (now (grid .entry))) s i) (onLine (first * length (now (grid .entry))) s (i - 1)) 1 s
+        (now (coeffs .entry)) ⌝ }
 {
     let n = grid.len();
     let w = at_knot(grid, i, i);
@@ -63,7 +69,9 @@ fn slab_last_row(
 )
     requires { ⌜ length (now grid) ≤ length (now upper) ⌝ }
     requires { ⌜ Lanes (length (now grid)) s first 1 s (length (now coeffs)) ⌝ }
-    ensures { λ _. ⌜ now (coeffs .exit) ≡ swept (lastAt binary64 (now (grid .entry)) (ghostNumbers «high_ghost») (now (upper .entry))) (onLine (first * length (now (grid .entry))) s (length (now (grid .entry)) - 1)) (onLine (first * length (now (grid .entry))) s (length (now (grid .entry)) - 2)) 1 s (now (coeffs .entry)) ⌝ }
+    ensures { λ _. ⌜ now (coeffs .exit) ≡ swept (lastAt binary64 (now (grid .entry)) (ghostNumbers «high_ghost») (now (upper .entry)))
+        (onLine (first * length (now (grid .entry))) s (length (now (grid .entry)) - 1))
+        (onLine (first * length (now (grid .entry))) s (length (now (grid .entry)) - 2)) 1 s (now (coeffs .entry)) ⌝ }
 {
     let n = grid.len();
     let end = high_end(grid, high_ghost);

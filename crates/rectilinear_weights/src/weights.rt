@@ -4,7 +4,17 @@ ghost use Prim.Native.Nat.{_+_, _<_, _≤_};
 ghost use lib.ListN.{length};
 ghost use lib.Ieee.{binary64};
 ghost use Rattle.rectilinear_weights.specs.Records.{ghostNumbers};
-ghost use Rattle.rectilinear_weights.specs.Weights.{foldLow, foldHigh, linearizedBoundaryWeights, lowBoundaryWeights, highBoundaryWeights, lowBoundaryWeightDerivatives, highBoundaryWeightDerivatives, interpWeights, interpWeightDerivatives};
+ghost use Rattle.rectilinear_weights.specs.Weights.{
+  foldLow,
+  foldHigh,
+  linearizedBoundaryWeights,
+  lowBoundaryWeights,
+  highBoundaryWeights,
+  lowBoundaryWeightDerivatives,
+  highBoundaryWeightDerivatives,
+  interpWeights,
+  interpWeightDerivatives,
+};
 use crate::ghosts::Ghost;
 use interp_math::mul_add;
 use multibspline::Saturation;

@@ -28,7 +28,9 @@ fn place_next(
 ) -> usize
     requires { ⌜ (a < 4) × Axis (getD (now dims) a 0) (getD (now strides) a 0) × ((k : ℕ) → k < good → getD (now spots) k 0 ≤ 16777216) ⌝ }
     requires { ⌜ AxisRoom a (s .n) (s .from) (s .cap) good (length (now xs)) (length (now spots)) (length (now work)) ⌝ }
-    ensures { λ r. ⌜ Places binary64 (getD (now (dims .entry)) a 0) (getD (now (starts .entry)) a nan) (getD (now (steps .entry)) a nan) (getD (now (strides .entry)) a 0) (now (xs .entry)) (a * s .n + s .from) good (s .cap * (a + 1)) (s .cap * a) (now (spots .entry)) (now (work .entry)) r (now (spots .exit)) (now (work .exit)) ⌝ }
+    ensures { λ r. ⌜ Places binary64 (getD (now (dims .entry)) a 0) (getD (now (starts .entry)) a nan) (getD (now (steps .entry)) a nan)
+        (getD (now (strides .entry)) a 0) (now (xs .entry)) (a * s .n + s .from) good (s .cap * (a + 1)) (s .cap * a)
+        (now (spots .entry)) (now (work .entry)) r (now (spots .exit)) (now (work .exit)) ⌝ }
 {
     let p = Points {
         n: dims[a],
@@ -63,7 +65,9 @@ pub fn place_axes(
 ) -> usize
     requires { ⌜ Ready count (now dims) (now strides) × Room count (s .n) (s .from) (s .cap) (s .m) (length (now xs)) (length (now spots)) (length (now work)) ⌝ }
     requires { ⌜ ((k : ℕ) → k < s .m → getD (now spots) k 0 ≡ 0) ⌝ }
-    ensures { λ r. ⌜ ((linear : Bool) → PlacedTo binary64 (mapFrom count (now (dims .entry)) (now (starts .entry)) (now (steps .entry)) linear) (now (xs .entry)) (s .n) (s .from) (s .cap) (s .m) count r (now (spots .exit)) (now (work .exit))) ⌝ }
+    ensures { λ r. ⌜ ((linear : Bool) → PlacedTo binary64
+        (mapFrom count (now (dims .entry)) (now (starts .entry)) (now (steps .entry)) linear) (now (xs .entry)) (s .n) (s .from)
+        (s .cap) (s .m) count r (now (spots .exit)) (now (work .exit))) ⌝ }
 {
     let mut good = s.m;
     let mut a: usize = 0;

@@ -66,7 +66,10 @@ fn inner_rows(
     requires { ⌜ (4 ≤ n) × (onLine base stride (n - 1) < length (now coeffs)) ⌝ }
     requires { ⌜ (n ≤ m) × (m + n ≤ length (now scratch)) ⌝ }
     ensures { λ r. ⌜ reducedOf r ≡ Thomas.forward binary64 (reducedOf «first») (innerRow binary64 (line nan base stride (now (coeffs .entry)))) (n - 2) ⌝ }
-    ensures { λ r. ⌜ now (scratch .exit) ≡ lineScratch m (λ k. Thomas.forward binary64 (reducedOf «first») (innerRow binary64 (line nan base stride (now (coeffs .entry)))) k .upper) (λ k. Thomas.forward binary64 (reducedOf «first») (innerRow binary64 (line nan base stride (now (coeffs .entry)))) k .right) (n - 1) (now (scratch .entry)) ⌝ }
+    ensures { λ r. ⌜ now (scratch .exit) ≡ lineScratch m
+        (λ k. Thomas.forward binary64 (reducedOf «first») (innerRow binary64 (line nan base stride (now (coeffs .entry)))) k .upper)
+        (λ k. Thomas.forward binary64 (reducedOf «first») (innerRow binary64 (line nan base stride (now (coeffs .entry)))) k .right)
+        (n - 1) (now (scratch .entry)) ⌝ }
 {
     keep_row(0, m, first, scratch);
     let last = n - 1;

@@ -28,7 +28,9 @@ fn value_blocks(
 ) -> Answer
     requires { ⌜ Accepted grid × (length (now coeffs) ≡ size (take (grid .count) (grid .dims))) ⌝ }
     requires { ⌜ (grid .count * n ≤ length (now xs)) × (n ≤ length (now out)) × (160 ≤ length (now spots)) × (512 ≤ length (now work)) ⌝ }
-    ensures { λ r. ⌜ Entries (badAt (regular binary64 (mapOf grid) (now (coeffs .entry))) (now (xs .entry)) n) (valueStep (regular binary64 (mapOf grid) (now (coeffs .entry))) (now (xs .entry)) n) n (now (out .entry)) (answerNumber r) (now (out .exit)) ⌝ }
+    ensures { λ r. ⌜ Entries (badAt (regular binary64 (mapOf grid) (now (coeffs .entry))) (now (xs .entry)) n)
+        (valueStep (regular binary64 (mapOf grid) (now (coeffs .entry))) (now (xs .entry)) n) n (now (out .entry))
+        (answerNumber r) (now (out .exit)) ⌝ }
 {
     let mut from: usize = 0;
     while from < n {
@@ -51,7 +53,9 @@ fn value_blocks(
 // The values of n queries, up to the first that is refused.
 pub fn put_values(grid: Grid, coeffs: &[f64], xs: &[f64], n: usize, out: &mut [f64]) -> Answer
     requires { ⌜ Accepted grid × (length (now coeffs) ≡ size (take (grid .count) (grid .dims))) × (grid .count * n ≤ length (now xs)) × (n ≤ length (now out)) ⌝ }
-    ensures { λ r. ⌜ Entries (badAt (regular binary64 (mapOf grid) (now (coeffs .entry))) (now (xs .entry)) n) (valueStep (regular binary64 (mapOf grid) (now (coeffs .entry))) (now (xs .entry)) n) n (now (out .entry)) (answerNumber r) (now (out .exit)) ⌝ }
+    ensures { λ r. ⌜ Entries (badAt (regular binary64 (mapOf grid) (now (coeffs .entry))) (now (xs .entry)) n)
+        (valueStep (regular binary64 (mapOf grid) (now (coeffs .entry))) (now (xs .entry)) n) n (now (out .entry))
+        (answerNumber r) (now (out .exit)) ⌝ }
 {
     let mut spots = [0usize; 160];
     let mut work = [0.0f64; 512];
@@ -69,7 +73,9 @@ fn gradient_blocks(
 ) -> Answer
     requires { ⌜ Accepted grid × (length (now coeffs) ≡ size (take (grid .count) (grid .dims))) ⌝ }
     requires { ⌜ (grid .count * n ≤ length (now xs)) × (grid .count * n ≤ length (now out)) × (160 ≤ length (now spots)) × (1024 ≤ length (now work)) ⌝ }
-    ensures { λ r. ⌜ Entries (badAt (regular binary64 (mapOf grid) (now (coeffs .entry))) (now (xs .entry)) n) (gradientStep (regular binary64 (mapOf grid) (now (coeffs .entry))) (now (xs .entry)) n) n (now (out .entry)) (answerNumber r) (now (out .exit)) ⌝ }
+    ensures { λ r. ⌜ Entries (badAt (regular binary64 (mapOf grid) (now (coeffs .entry))) (now (xs .entry)) n)
+        (gradientStep (regular binary64 (mapOf grid) (now (coeffs .entry))) (now (xs .entry)) n) n (now (out .entry))
+        (answerNumber r) (now (out .exit)) ⌝ }
 {
     let mut from: usize = 0;
     while from < n {
@@ -92,7 +98,9 @@ fn gradient_blocks(
 // The gradients of n queries, up to the first that is refused.
 pub fn put_gradients(grid: Grid, coeffs: &[f64], xs: &[f64], n: usize, out: &mut [f64]) -> Answer
     requires { ⌜ Accepted grid × (length (now coeffs) ≡ size (take (grid .count) (grid .dims))) × (grid .count * n ≤ length (now xs)) × (grid .count * n ≤ length (now out)) ⌝ }
-    ensures { λ r. ⌜ Entries (badAt (regular binary64 (mapOf grid) (now (coeffs .entry))) (now (xs .entry)) n) (gradientStep (regular binary64 (mapOf grid) (now (coeffs .entry))) (now (xs .entry)) n) n (now (out .entry)) (answerNumber r) (now (out .exit)) ⌝ }
+    ensures { λ r. ⌜ Entries (badAt (regular binary64 (mapOf grid) (now (coeffs .entry))) (now (xs .entry)) n)
+        (gradientStep (regular binary64 (mapOf grid) (now (coeffs .entry))) (now (xs .entry)) n) n (now (out .entry))
+        (answerNumber r) (now (out .exit)) ⌝ }
 {
     let mut spots = [0usize; 160];
     let mut work = [0.0f64; 1024];

@@ -141,7 +141,9 @@ impl MultiBsplineRegular {
         scratch: &mut [f64],
         linearize_extrapolation: bool,
     ) -> Built
-        ensures { λ r. ⌜ RegularBuilt (fromValuesAnswer (shape .count) (shape .dims) steps (length (now (vals .entry))) (length (now (coeffs .entry))) (length (now (scratch .entry)))) (shape .count) (shape .dims) starts steps «linearize_extrapolation» (answerNumber (r .answer)) (mapOf (r .map)) ⌝ }
+        ensures { λ r. ⌜ RegularBuilt
+            (fromValuesAnswer (shape .count) (shape .dims) steps (length (now (vals .entry))) (length (now (coeffs .entry))) (length (now (scratch .entry))))
+            (shape .count) (shape .dims) starts steps «linearize_extrapolation» (answerNumber (r .answer)) (mapOf (r .map)) ⌝ }
         ensures { λ r. ⌜ RegularFitLeaves binary64 (shape .count) (shape .dims) (now (vals .entry)) (now (coeffs .entry)) (now (scratch .entry)) (now (coeffs .exit)) (now (scratch .exit)) ⌝ }
     {
         let dims = shape.dims;

@@ -1,7 +1,24 @@
 // The four weights of a query on a regular axis, and their slopes.
 ghost use mathlib.Core.Path.{_≡_};
 ghost use lib.Ieee.{binary64};
-ghost use Rattle.regular_weights.specs.Weights.{cubicBsplineWeights, cubicBsplineWeightDerivatives, lowLinearizedBoundaryWeights, highLinearizedBoundaryWeights, lowLinearizedBoundaryWeightDerivatives, highLinearizedBoundaryWeightDerivatives, foldLow, foldHigh, lowBoundaryWeights, highBoundaryWeights, lowBoundaryWeightDerivatives, highBoundaryWeightDerivatives, interpWeights, spanDerivatives, scaled, interpWeightDerivatives};
+ghost use Rattle.regular_weights.specs.Weights.{
+  cubicBsplineWeights,
+  cubicBsplineWeightDerivatives,
+  lowLinearizedBoundaryWeights,
+  highLinearizedBoundaryWeights,
+  lowLinearizedBoundaryWeightDerivatives,
+  highLinearizedBoundaryWeightDerivatives,
+  foldLow,
+  foldHigh,
+  lowBoundaryWeights,
+  highBoundaryWeights,
+  lowBoundaryWeightDerivatives,
+  highBoundaryWeightDerivatives,
+  interpWeights,
+  spanDerivatives,
+  scaled,
+  interpWeightDerivatives,
+};
 use interp_math::mul_add;
 use multibspline::Saturation;
 

@@ -31,7 +31,10 @@ fn run_one(
 )
     requires { ⌜ (i < length (now axes)) × (length (now lines) ≡ length (now axes)) × (length (now answers) ≡ length (now axes)) ⌝ }
     requires { ⌜ firstRefusal (callReadyChecks count dims (gridCheck (take count dims) (now grid)) (knotsCheck (take count dims) (now grid)) (length (now coeffs)) (length (now ledger)) (length (now scratch))) ≡ 0 ⌝ }
-    ensures { λ _. ⌜ RectilinearOneRan binary64 count dims (now (grid .entry)) (callOf (getD (now (axes .entry)) i 0) (getD (now (lines .entry)) i 0) (now (scratch .entry))) i (stateOf (now (coeffs .entry)) (now (ledger .entry))) (now (answers .entry)) (stateOf (now (coeffs .exit)) (now (ledger .exit))) (now (scratch .exit)) (now (answers .exit)) ⌝ }
+    ensures { λ _. ⌜ RectilinearOneRan binary64 count dims (now (grid .entry))
+        (callOf (getD (now (axes .entry)) i 0) (getD (now (lines .entry)) i 0) (now (scratch .entry))) i
+        (stateOf (now (coeffs .entry)) (now (ledger .entry))) (now (answers .entry))
+        (stateOf (now (coeffs .exit)) (now (ledger .exit))) (now (scratch .exit)) (now (answers .exit)) ⌝ }
 {
     let answer = call_ready(
         count,
@@ -61,7 +64,9 @@ fn run_list(
 )
     requires { ⌜ (length (now lines) ≡ length (now axes)) × (length (now answers) ≡ length (now axes)) ⌝ }
     requires { ⌜ firstRefusal (callReadyChecks count dims (gridCheck (take count dims) (now grid)) (knotsCheck (take count dims) (now grid)) (length (now coeffs)) (length (now ledger)) (length (now scratch))) ≡ 0 ⌝ }
-    ensures { λ _. ⌜ RectilinearListRan binary64 count dims (now (grid .entry)) (now (axes .entry)) (now (lines .entry)) (stateOf (now (coeffs .entry)) (now (ledger .entry))) (now (scratch .entry)) (stateOf (now (coeffs .exit)) (now (ledger .exit))) (now (scratch .exit)) (now (answers .exit)) ⌝ }
+    ensures { λ _. ⌜ RectilinearListRan binary64 count dims (now (grid .entry)) (now (axes .entry)) (now (lines .entry))
+        (stateOf (now (coeffs .entry)) (now (ledger .entry))) (now (scratch .entry))
+        (stateOf (now (coeffs .exit)) (now (ledger .exit))) (now (scratch .exit)) (now (answers .exit)) ⌝ }
 {
     for i in 0..axes.len() {
         run_one(
@@ -91,7 +96,9 @@ fn fit_by_list(
     scratch: &mut [f64],
     answers: &mut [u8],
 ) -> Answer
-    ensures { λ r. ⌜ RectilinearRan binary64 count dims (now (grid .entry)) (now (vals .entry)) (now (axes .entry)) (now (lines .entry)) (stateOf (now (coeffs .entry)) (now (ledger .entry))) (now (scratch .entry)) (now (answers .entry)) (answerNumber r) (stateOf (now (coeffs .exit)) (now (ledger .exit))) (now (scratch .exit)) (now (answers .exit)) ⌝ }
+    ensures { λ r. ⌜ RectilinearRan binary64 count dims (now (grid .entry)) (now (vals .entry)) (now (axes .entry)) (now (lines .entry))
+        (stateOf (now (coeffs .entry)) (now (ledger .entry))) (now (scratch .entry)) (now (answers .entry)) (answerNumber r)
+        (stateOf (now (coeffs .exit)) (now (ledger .exit))) (now (scratch .exit)) (now (answers .exit)) ⌝ }
 {
     if let Answer::Refused(refusal) = check_begin(
         count,
@@ -137,7 +144,9 @@ pub fn fit_rectilinear_by_list(
     scratch: &mut [f64],
     answers: &mut [u8],
 ) -> Answer
-    ensures { λ r. ⌜ RectilinearRan binary64 (shape .count) (shape .dims) (now (grid .entry)) (now (vals .entry)) (now (axes .entry)) (now (lines .entry)) (stateOf (now (coeffs .entry)) (now (ledger .entry))) (now (scratch .entry)) (now (answers .entry)) (answerNumber r) (stateOf (now (coeffs .exit)) (now (ledger .exit))) (now (scratch .exit)) (now (answers .exit)) ⌝ }
+    ensures { λ r. ⌜ RectilinearRan binary64 (shape .count) (shape .dims) (now (grid .entry)) (now (vals .entry)) (now (axes .entry))
+        (now (lines .entry)) (stateOf (now (coeffs .entry)) (now (ledger .entry))) (now (scratch .entry)) (now (answers .entry))
+        (answerNumber r) (stateOf (now (coeffs .exit)) (now (ledger .exit))) (now (scratch .exit)) (now (answers .exit)) ⌝ }
 {
     let count = shape.count;
     let dims = shape.dims;

@@ -135,7 +135,9 @@ pub fn begin_rectilinear(
     ledger: &mut [u8],
     scratch: &[f64],
 ) -> Answer
-    ensures { λ r. ⌜ RectilinearBegun (shape .count) (shape .dims) (now (grid .entry)) (now (vals .entry)) (stateOf (now (coeffs .entry)) (now (ledger .entry))) (length (now (scratch .entry))) (answerNumber r) (stateOf (now (coeffs .exit)) (now (ledger .exit))) ⌝ }
+    ensures { λ r. ⌜ RectilinearBegun (shape .count) (shape .dims) (now (grid .entry)) (now (vals .entry))
+        (stateOf (now (coeffs .entry)) (now (ledger .entry))) (length (now (scratch .entry))) (answerNumber r)
+        (stateOf (now (coeffs .exit)) (now (ledger .exit))) ⌝ }
 {
     let count = shape.count;
     let dims = shape.dims;
@@ -173,8 +175,13 @@ fn solve_found(
 )
     requires { ⌜ (axis < count) × Usable count dims × (length (now grid) ≡ total (take count dims)) × (found .n ≡ points (take count dims) axis) ⌝ }
     requires { ⌜ LineFits found (length (now coeffs)) (length (now scratch)) ⌝ }
-    ensures { λ _. ⌜ now (coeffs .exit) ≡ writeLine (found .base) (found .stride) (solve binary64 (now (grid .entry)) (take count dims) axis (line nan (found .base) (found .stride) (now (coeffs .entry)))) (found .n) (now (coeffs .entry)) ⌝ }
-    ensures { λ _. ⌜ now (scratch .exit) ≡ lineScratch (found .longest) (upper binary64 (now (grid .entry)) (take count dims) axis (line nan (found .base) (found .stride) (now (coeffs .entry)))) (solve binary64 (now (grid .entry)) (take count dims) axis (line nan (found .base) (found .stride) (now (coeffs .entry)))) (found .n) (now (scratch .entry)) ⌝ }
+    ensures { λ _. ⌜ now (coeffs .exit) ≡ writeLine (found .base) (found .stride)
+        (solve binary64 (now (grid .entry)) (take count dims) axis (line nan (found .base) (found .stride) (now (coeffs .entry))))
+        (found .n) (now (coeffs .entry)) ⌝ }
+    ensures { λ _. ⌜ now (scratch .exit) ≡ lineScratch (found .longest)
+        (upper binary64 (now (grid .entry)) (take count dims) axis (line nan (found .base) (found .stride) (now (coeffs .entry))))
+        (solve binary64 (now (grid .entry)) (take count dims) axis (line nan (found .base) (found .stride) (now (coeffs .entry))))
+        (found .n) (now (scratch .entry)) ⌝ }
 {
     let knots = axis_knots(grid, count, dims, axis);
     let low_ghost = low_ghost_coeffs(knots);
@@ -203,7 +210,9 @@ pub fn call_ready(
     scratch: &mut [f64],
 ) -> Answer
     requires { ⌜ firstRefusal (callReadyChecks count dims (gridCheck (take count dims) (now grid)) (knotsCheck (take count dims) (now grid)) (length (now coeffs)) (length (now ledger)) (length (now scratch))) ≡ 0 ⌝ }
-    ensures { λ r. ⌜ RectilinearLineCalled binary64 count dims (now (grid .entry)) (callOf axis line (now (scratch .entry))) (stateOf (now (coeffs .entry)) (now (ledger .entry))) (answerNumber r) (stateOf (now (coeffs .exit)) (now (ledger .exit))) (now (scratch .exit)) ⌝ }
+    ensures { λ r. ⌜ RectilinearLineCalled binary64 count dims (now (grid .entry)) (callOf axis line (now (scratch .entry)))
+        (stateOf (now (coeffs .entry)) (now (ledger .entry))) (answerNumber r)
+        (stateOf (now (coeffs .exit)) (now (ledger .exit))) (now (scratch .exit)) ⌝ }
 {
     match find_due(count, dims, axis, line, ledger) {
         Due::At(found) => {
@@ -225,7 +234,9 @@ fn line_call(
     ledger: &mut [u8],
     scratch: &mut [f64],
 ) -> Answer
-    ensures { λ r. ⌜ RectilinearLineCalled binary64 count dims (now (grid .entry)) (callOf axis line (now (scratch .entry))) (stateOf (now (coeffs .entry)) (now (ledger .entry))) (answerNumber r) (stateOf (now (coeffs .exit)) (now (ledger .exit))) (now (scratch .exit)) ⌝ }
+    ensures { λ r. ⌜ RectilinearLineCalled binary64 count dims (now (grid .entry)) (callOf axis line (now (scratch .entry)))
+        (stateOf (now (coeffs .entry)) (now (ledger .entry))) (answerNumber r)
+        (stateOf (now (coeffs .exit)) (now (ledger .exit))) (now (scratch .exit)) ⌝ }
 {
     if let Answer::Refused(refusal) = check_call(
         count,
@@ -255,7 +266,9 @@ pub fn solve_rectilinear_line(
     ledger: &mut [u8],
     scratch: &mut [f64],
 ) -> Answer
-    ensures { λ r. ⌜ RectilinearLineCalled binary64 (shape .count) (shape .dims) (now (grid .entry)) (callOf axis line (now (scratch .entry))) (stateOf (now (coeffs .entry)) (now (ledger .entry))) (answerNumber r) (stateOf (now (coeffs .exit)) (now (ledger .exit))) (now (scratch .exit)) ⌝ }
+    ensures { λ r. ⌜ RectilinearLineCalled binary64 (shape .count) (shape .dims) (now (grid .entry))
+        (callOf axis line (now (scratch .entry))) (stateOf (now (coeffs .entry)) (now (ledger .entry))) (answerNumber r)
+        (stateOf (now (coeffs .exit)) (now (ledger .exit))) (now (scratch .exit)) ⌝ }
 {
     let count = shape.count;
     let dims = shape.dims;

@@ -30,7 +30,10 @@ fn run_one(
 )
     requires { ⌜ (i < length (now axes)) × (length (now lines) ≡ length (now axes)) × (length (now answers) ≡ length (now axes)) ⌝ }
     requires { ⌜ firstRefusal (callReadyChecks count dims [] [] (length (now coeffs)) (length (now ledger)) (length (now scratch))) ≡ 0 ⌝ }
-    ensures { λ _. ⌜ RegularOneRan binary64 count dims (callOf (getD (now (axes .entry)) i 0) (getD (now (lines .entry)) i 0) (now (scratch .entry))) i (stateOf (now (coeffs .entry)) (now (ledger .entry))) (now (answers .entry)) (stateOf (now (coeffs .exit)) (now (ledger .exit))) (now (scratch .exit)) (now (answers .exit)) ⌝ }
+    ensures { λ _. ⌜ RegularOneRan binary64 count dims
+        (callOf (getD (now (axes .entry)) i 0) (getD (now (lines .entry)) i 0) (now (scratch .entry))) i
+        (stateOf (now (coeffs .entry)) (now (ledger .entry))) (now (answers .entry))
+        (stateOf (now (coeffs .exit)) (now (ledger .exit))) (now (scratch .exit)) (now (answers .exit)) ⌝ }
 {
     let answer = call_ready(count, dims, axes[i], lines[i], coeffs, ledger, scratch);
     let number = answer.number();
@@ -50,7 +53,9 @@ fn run_list(
 )
     requires { ⌜ (length (now lines) ≡ length (now axes)) × (length (now answers) ≡ length (now axes)) ⌝ }
     requires { ⌜ firstRefusal (callReadyChecks count dims [] [] (length (now coeffs)) (length (now ledger)) (length (now scratch))) ≡ 0 ⌝ }
-    ensures { λ _. ⌜ RegularListRan binary64 count dims (now (axes .entry)) (now (lines .entry)) (stateOf (now (coeffs .entry)) (now (ledger .entry))) (now (scratch .entry)) (stateOf (now (coeffs .exit)) (now (ledger .exit))) (now (scratch .exit)) (now (answers .exit)) ⌝ }
+    ensures { λ _. ⌜ RegularListRan binary64 count dims (now (axes .entry)) (now (lines .entry))
+        (stateOf (now (coeffs .entry)) (now (ledger .entry))) (now (scratch .entry))
+        (stateOf (now (coeffs .exit)) (now (ledger .exit))) (now (scratch .exit)) (now (answers .exit)) ⌝ }
 {
     for i in 0..axes.len() {
         run_one(
@@ -78,7 +83,9 @@ fn fit_by_list(
     scratch: &mut [f64],
     answers: &mut [u8],
 ) -> Answer
-    ensures { λ r. ⌜ RegularRan binary64 count dims (now (vals .entry)) (now (axes .entry)) (now (lines .entry)) (stateOf (now (coeffs .entry)) (now (ledger .entry))) (now (scratch .entry)) (now (answers .entry)) (answerNumber r) (stateOf (now (coeffs .exit)) (now (ledger .exit))) (now (scratch .exit)) (now (answers .exit)) ⌝ }
+    ensures { λ r. ⌜ RegularRan binary64 count dims (now (vals .entry)) (now (axes .entry)) (now (lines .entry))
+        (stateOf (now (coeffs .entry)) (now (ledger .entry))) (now (scratch .entry)) (now (answers .entry)) (answerNumber r)
+        (stateOf (now (coeffs .exit)) (now (ledger .exit))) (now (scratch .exit)) (now (answers .exit)) ⌝ }
 {
     if let Answer::Refused(refusal) = check_begin(
         count,
@@ -112,7 +119,9 @@ pub fn fit_regular_by_list(
     scratch: &mut [f64],
     answers: &mut [u8],
 ) -> Answer
-    ensures { λ r. ⌜ RegularRan binary64 (shape .count) (shape .dims) (now (vals .entry)) (now (axes .entry)) (now (lines .entry)) (stateOf (now (coeffs .entry)) (now (ledger .entry))) (now (scratch .entry)) (now (answers .entry)) (answerNumber r) (stateOf (now (coeffs .exit)) (now (ledger .exit))) (now (scratch .exit)) (now (answers .exit)) ⌝ }
+    ensures { λ r. ⌜ RegularRan binary64 (shape .count) (shape .dims) (now (vals .entry)) (now (axes .entry)) (now (lines .entry))
+        (stateOf (now (coeffs .entry)) (now (ledger .entry))) (now (scratch .entry)) (now (answers .entry)) (answerNumber r)
+        (stateOf (now (coeffs .exit)) (now (ledger .exit))) (now (scratch .exit)) (now (answers .exit)) ⌝ }
 {
     let count = shape.count;
     let dims = shape.dims;

@@ -88,7 +88,8 @@ pub fn begin_regular(
     ledger: &mut [u8],
     scratch: &[f64],
 ) -> Answer
-    ensures { λ r. ⌜ RegularBegun (shape .count) (shape .dims) (now (vals .entry)) (stateOf (now (coeffs .entry)) (now (ledger .entry))) (length (now (scratch .entry))) (answerNumber r) (stateOf (now (coeffs .exit)) (now (ledger .exit))) ⌝ }
+    ensures { λ r. ⌜ RegularBegun (shape .count) (shape .dims) (now (vals .entry)) (stateOf (now (coeffs .entry)) (now (ledger .entry)))
+        (length (now (scratch .entry))) (answerNumber r) (stateOf (now (coeffs .exit)) (now (ledger .exit))) ⌝ }
 {
     let count = shape.count;
     let dims = shape.dims;
@@ -124,7 +125,9 @@ pub fn call_ready(
     scratch: &mut [f64],
 ) -> Answer
     requires { ⌜ firstRefusal (callReadyChecks count dims [] [] (length (now coeffs)) (length (now ledger)) (length (now scratch))) ≡ 0 ⌝ }
-    ensures { λ r. ⌜ RegularLineCalled binary64 count dims (callOf axis line (now (scratch .entry))) (stateOf (now (coeffs .entry)) (now (ledger .entry))) (answerNumber r) (stateOf (now (coeffs .exit)) (now (ledger .exit))) (now (scratch .exit)) ⌝ }
+    ensures { λ r. ⌜ RegularLineCalled binary64 count dims (callOf axis line (now (scratch .entry)))
+        (stateOf (now (coeffs .entry)) (now (ledger .entry))) (answerNumber r)
+        (stateOf (now (coeffs .exit)) (now (ledger .exit))) (now (scratch .exit)) ⌝ }
 {
     match find_due(count, dims, axis, line, ledger) {
         Due::At(found) => {
@@ -152,7 +155,9 @@ fn line_call(
     ledger: &mut [u8],
     scratch: &mut [f64],
 ) -> Answer
-    ensures { λ r. ⌜ RegularLineCalled binary64 count dims (callOf axis line (now (scratch .entry))) (stateOf (now (coeffs .entry)) (now (ledger .entry))) (answerNumber r) (stateOf (now (coeffs .exit)) (now (ledger .exit))) (now (scratch .exit)) ⌝ }
+    ensures { λ r. ⌜ RegularLineCalled binary64 count dims (callOf axis line (now (scratch .entry)))
+        (stateOf (now (coeffs .entry)) (now (ledger .entry))) (answerNumber r)
+        (stateOf (now (coeffs .exit)) (now (ledger .exit))) (now (scratch .exit)) ⌝ }
 {
     if let Answer::Refused(refusal) = check_call(
         count,
@@ -180,7 +185,9 @@ pub fn solve_regular_line(
     ledger: &mut [u8],
     scratch: &mut [f64],
 ) -> Answer
-    ensures { λ r. ⌜ RegularLineCalled binary64 (shape .count) (shape .dims) (callOf axis line (now (scratch .entry))) (stateOf (now (coeffs .entry)) (now (ledger .entry))) (answerNumber r) (stateOf (now (coeffs .exit)) (now (ledger .exit))) (now (scratch .exit)) ⌝ }
+    ensures { λ r. ⌜ RegularLineCalled binary64 (shape .count) (shape .dims) (callOf axis line (now (scratch .entry)))
+        (stateOf (now (coeffs .entry)) (now (ledger .entry))) (answerNumber r)
+        (stateOf (now (coeffs .exit)) (now (ledger .exit))) (now (scratch .exit)) ⌝ }
 {
     let count = shape.count;
     let dims = shape.dims;
