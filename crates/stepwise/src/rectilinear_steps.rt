@@ -224,33 +224,6 @@ pub fn call_ready(
     }
 }
 
-fn line_call(
-    count: usize,
-    dims: [usize; 4],
-    grid: &[f64],
-    axis: usize,
-    line: usize,
-    coeffs: &mut [f64],
-    ledger: &mut [u8],
-    scratch: &mut [f64],
-) -> Answer
-    ensures { λ r. ⌜ RectilinearLineCalled binary64 count dims (now (grid .entry)) (callOf axis line (now (scratch .entry)))
-        (stateOf (now (coeffs .entry)) (now (ledger .entry))) (answerNumber r)
-        (stateOf (now (coeffs .exit)) (now (ledger .exit))) (now (scratch .exit)) ⌝ }
-{
-    if let Answer::Refused(refusal) = check_call(
-        count,
-        dims,
-        grid,
-        coeffs.len(),
-        ledger.len(),
-        scratch.len(),
-    ) {
-        return Answer::Refused(refusal);
-    }
-    call_ready(count, dims, grid, axis, line, coeffs, ledger, scratch)
-}
-
 // Solves one line that is due: its cells of `coeffs` become its coefficients, and 1 is added to its ledger bytes. No other
 // coefficient or byte changes; `scratch` is left with the line's numbers. A line of axis a is due when each of its bytes is a.
 // Answers the first of these refusals, with nothing written: 1, the axis count is not 1 to 4; 2, an axis has fewer than 4
@@ -272,5 +245,15 @@ pub fn solve_rectilinear_line(
 {
     let count = shape.count;
     let dims = shape.dims;
-    line_call(count, dims, grid, axis, line, coeffs, ledger, scratch)
+    if let Answer::Refused(refusal) = check_call(
+        count,
+        dims,
+        grid,
+        coeffs.len(),
+        ledger.len(),
+        scratch.len(),
+    ) {
+        return Answer::Refused(refusal);
+    }
+    call_ready(count, dims, grid, axis, line, coeffs, ledger, scratch)
 }

@@ -146,31 +146,6 @@ pub fn call_ready(
     }
 }
 
-fn line_call(
-    count: usize,
-    dims: [usize; 4],
-    axis: usize,
-    line: usize,
-    coeffs: &mut [f64],
-    ledger: &mut [u8],
-    scratch: &mut [f64],
-) -> Answer
-    ensures { λ r. ⌜ RegularLineCalled binary64 count dims (callOf axis line (now (scratch .entry)))
-        (stateOf (now (coeffs .entry)) (now (ledger .entry))) (answerNumber r)
-        (stateOf (now (coeffs .exit)) (now (ledger .exit))) (now (scratch .exit)) ⌝ }
-{
-    if let Answer::Refused(refusal) = check_call(
-        count,
-        dims,
-        coeffs.len(),
-        ledger.len(),
-        scratch.len(),
-    ) {
-        return Answer::Refused(refusal);
-    }
-    call_ready(count, dims, axis, line, coeffs, ledger, scratch)
-}
-
 // Solves one line that is due: its cells of `coeffs` become its coefficients, and 1 is added to its ledger bytes. No other
 // coefficient or byte changes; `scratch` is left with the line's numbers. A line of axis a is due when each of its bytes is a.
 // Answers the first of these refusals, with nothing written: 1, the axis count is not 1 to 4; 2, an axis has fewer than 4
@@ -191,5 +166,14 @@ pub fn solve_regular_line(
 {
     let count = shape.count;
     let dims = shape.dims;
-    line_call(count, dims, axis, line, coeffs, ledger, scratch)
+    if let Answer::Refused(refusal) = check_call(
+        count,
+        dims,
+        coeffs.len(),
+        ledger.len(),
+        scratch.len(),
+    ) {
+        return Answer::Refused(refusal);
+    }
+    call_ready(count, dims, axis, line, coeffs, ledger, scratch)
 }
