@@ -82,6 +82,7 @@ pub extern "C" fn corvezan_regular_from_values(
     number(answer)
 }
 
+// A call that evaluates the map looks at the shape itself: only a grid of another length is left to refuse here, by the shape first.
 #[no_mangle]
 pub extern "C" fn corvezan_regular_value(
     dims: &[usize],
@@ -96,9 +97,8 @@ pub extern "C" fn corvezan_regular_value(
         (regularSpline binary64 (now (dims .entry)) (now (grid .entry)) (isOn linear) (now (coeffs .entry)) .value (query (length (now (dims .entry))) (now (x .entry)) 1 0))
         (now (value .entry)) n (now (value .exit)) ⌝ }
 {
-    let refused = number(check_grid(dims, grid));
-    if refused != 0 {
-        return refused;
+    if grid.len() != 2 * dims.len() {
+        return number(check_grid(dims, grid));
     }
     let map = regular_map_of(dims, grid, linear);
     put_value(map.interp_one(coeffs, x), value)
@@ -121,6 +121,7 @@ pub extern "C" fn corvezan_regular_gradient(
     if slopes.len() != dims.len() {
         return else_mismatch(corvezan_regular_check(dims, grid, coeffs.len()));
     }
+    // the shape too: no more than four slopes are written
     let refused = number(check_grid(dims, grid));
     if refused != 0 {
         return refused;
@@ -140,9 +141,8 @@ pub extern "C" fn corvezan_regular_values(
 ) -> u32
     ensures { λ n. ⌜ ValueBatch (regularSpline binary64 (now (dims .entry)) (now (grid .entry)) (isOn linear) (now (coeffs .entry))) (now (x .entry)) (now (values .entry)) n (now (values .exit)) ⌝ }
 {
-    let refused = number(check_grid(dims, grid));
-    if refused != 0 {
-        return refused;
+    if grid.len() != 2 * dims.len() {
+        return number(check_grid(dims, grid));
     }
     let map = regular_map_of(dims, grid, linear);
     number(map.interp(coeffs, x, values))
@@ -159,9 +159,8 @@ pub extern "C" fn corvezan_regular_gradients(
 ) -> u32
     ensures { λ n. ⌜ GradientBatch (regularSpline binary64 (now (dims .entry)) (now (grid .entry)) (isOn linear) (now (coeffs .entry))) (now (x .entry)) (now (slopes .entry)) n (now (slopes .exit)) ⌝ }
 {
-    let refused = number(check_grid(dims, grid));
-    if refused != 0 {
-        return refused;
+    if grid.len() != 2 * dims.len() {
+        return number(check_grid(dims, grid));
     }
     let map = regular_map_of(dims, grid, linear);
     number(map.interp_grad(coeffs, x, slopes))

@@ -73,7 +73,7 @@ pub regular-map-is : (dims : List ℕ) (grid : List Float) (linear : Bool) {s : 
     → _≡_ {A = RegularMap} (record { count = length dims; lens = s .dims; starts = starts; steps = steps; linear = linear }) (regularMap dims grid linear)
 regular-map-is dims grid linear e b t = rw (e, b, t)
 
--- ---- a regular map: the check of the grid's length passes
+-- ---- a regular map: what is known once its shape and the grid's length are found right
 
 module _ (dims : List ℕ) (grid : List Float) {k : ℕ} (told : k ≡ firstRefusal (gridReadyChecks dims grid)) (z : k ≡ 0) where
   ok : firstRefusal (gridReadyChecks dims grid) ≡ 0
@@ -82,14 +82,21 @@ module _ (dims : List ℕ) (grid : List Float) {k : ℕ} (told : k ≡ firstRefu
   shape-ok : firstRefusal (shapeChecks (length dims) (lensOf dims)) ≡ 0
   shape-ok = prefix-passed (shapeChecks (length dims) (lensOf dims)) _ ok
 
-  long : length grid ≡ 2 * length dims
-  long = length-passed [] (2 * length dims) (length grid) (sym (accepted-append (length dims) (lensOf dims) shape-ok (lengthCheck (2 * length dims) (length grid))) ∙ ok) .0
-
-  dropped : (after : List Check) → firstRefusal (gridReadyChecks dims grid ++ after) ≡ firstRefusal (shapeChecks (length dims) (lensOf dims) ++ after)
-  dropped after = without (shapeChecks (length dims) (lensOf dims)) (lengthCheck (2 * length dims) (length grid)) after (length-passes after (2 * length dims) (length grid) long)
+  pub grid-long : length grid ≡ 2 * length dims
+  grid-long = length-passed [] (2 * length dims) (length grid) (sym (accepted-append (length dims) (lensOf dims) shape-ok (lengthCheck (2 * length dims) (length grid))) ∙ ok) .0
 
   pub at-most-four : length dims ≤ 4
   at-most-four = usable (length dims) (lensOf dims) (four-lens dims) shape-ok .at-most-four
+
+-- a grid of another length is refused, by the shape or by its length
+pub grid-refused : (dims : List ℕ) (grid : List Float) {k : ℕ} → (length grid ≡ 2 * length dims → ⊥) → k ≡ firstRefusal (gridReadyChecks dims grid) → k ≡ 0 → ⊥
+grid-refused dims grid wrong told z = wrong (grid-long dims grid told z)
+
+-- ---- a regular map: the check of the grid's length passes
+
+module _ (dims : List ℕ) (grid : List Float) (long : length grid ≡ 2 * length dims) where
+  dropped : (after : List Check) → firstRefusal (gridReadyChecks dims grid ++ after) ≡ firstRefusal (shapeChecks (length dims) (lensOf dims) ++ after)
+  dropped after = without (shapeChecks (length dims) (lensOf dims)) (lengthCheck (2 * length dims) (length grid)) after (length-passes after (2 * length dims) (length grid) long)
 
   pub regular-checked : {linear : Bool} (m : RegularMap) → m ≡ regularMap dims grid linear → (coefs : ℕ) {n : ℕ} → n ≡ mapAnswer (m .count) (m .lens) (m .steps) coefs → n ≡ firstRefusal (regularChecks dims grid coefs)
   unfolding mapAnswer
@@ -116,12 +123,12 @@ module _ (dims : List ℕ) (grid : List Float) {k : ℕ} (told : k ≡ firstRefu
         let v = subst (λ (m : RegularMap). GradientBatch (regular f m coefs) xs out n out′) e w in
         rw (dropped _) v
 
-    pub regular-gradient : (x slopes : List Float) → length slopes ≡ length dims → {a n : ℕ} {ps slopes′ : List Float} → OneGradient (regular f m coefs) x a ps
+    pub regular-gradient : length dims ≤ 4 → (x slopes : List Float) → length slopes ≡ length dims → {a n : ℕ} {ps slopes′ : List Float} → OneGradient (regular f m coefs) x a ps
         → Wrote a (put (λ k. k * 1 + 0) (λ k. getD ps k nan) (length slopes) slopes) slopes n slopes′
         → Wrote (oneAnswer (withSlopes (length slopes) (regularSpline f dims grid linear coefs)) x) (gradientStep (regularSpline f dims grid linear coefs) x 1 0 slopes) slopes n slopes′
     unfolding gradientStep
-    regular-gradient x slopes whole {a} {n} {ps} w p =
-        wrote-gradient (regularSpline f dims grid linear coefs) x slopes at-most-four whole
+    regular-gradient few x slopes whole {a} {n} {ps} w p =
+        wrote-gradient (regularSpline f dims grid linear coefs) x slopes few whole
         (let v = subst (λ (m : RegularMap). OneGradient (regular f m coefs) x a ps) e w in record { answers = v .answers ∙ sym (regular-one x); gradient = v .gradient }) p
 
 -- ---- building from samples
@@ -129,12 +136,12 @@ module _ (dims : List ℕ) (grid : List Float) {k : ℕ} (told : k ≡ firstRefu
 module _ (dims : List ℕ) (grid : List Float) {k : ℕ} (told : k ≡ firstRefusal (gridReadyChecks dims grid)) (z : k ≡ 0) (samples coefs scratch : ℕ) where
   pub fit-dropped : firstRefusal (fitChecks dims grid samples coefs scratch) ≡ firstRefusal (regularFitChecks (length dims) (lensOf dims) samples coefs scratch)
   unfolding regularFitChecks
-  fit-dropped = dropped dims grid told z _
+  fit-dropped = dropped dims grid (grid-long dims grid told z) _
 
   pub values-dropped : firstRefusal (fitChecks dims grid samples coefs scratch ++ refuse 5 (anyStepBad (take (length dims) (stepsOf dims grid))) ∷ [])
       ≡ fromValuesAnswer (length dims) (lensOf dims) (stepsOf dims grid) samples coefs scratch
   unfolding regularFitChecks fromValuesAnswer
-  values-dropped = dropped dims grid told z _
+  values-dropped = dropped dims grid (grid-long dims grid told z) _
 
 -- ---- a rectilinear map: the map that is built of the grid is the one that C hands over
 

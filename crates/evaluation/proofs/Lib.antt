@@ -13,5 +13,6 @@ pub mod Weighed
 pub mod Singles
 pub mod InUse
 pub mod ByAxis
+pub mod OneQuery
 pub mod Stages
 pub mod Same

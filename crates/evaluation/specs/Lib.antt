@@ -7,4 +7,5 @@ pub mod Built
 pub mod Place
 pub mod Block
 pub mod Stages
+pub mod OneQuery
 pub mod Records

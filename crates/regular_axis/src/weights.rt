@@ -8,15 +8,23 @@ ghost use Rattle.evaluation.specs.Block.{withRow, RowsPut};
 ghost use Rattle.regular_axis.specs.Axis.{satOf, weightRow};
 use crate::places::sat_of;
 use evaluation::put_row;
+use multibspline::Saturation;
+use regular_weights::cubic_bspline_weights;
 use regular_weights::interp_weights;
 
-// Row number j, by how far its coordinate lies past its origin, which waits in its first cell.
+// Row number j, by how far its coordinate lies past its origin, which waits in its first cell. The inner span, where most queries
+// lie, is told apart here, so that the loop over the queries holds its weights and no more.
 fn weigh_row(linear: bool, number: usize, j: usize, work: &mut [f64])
     requires { ⌜ 4 * j + 4 ≤ length (now work) ⌝ }
     ensures { λ _. ⌜ now (work .exit) ≡ withRow (now (work .entry)) j (interpWeights binary64 linear (satOf number) (getD (now (work .entry)) (4 * j) nan)) ⌝ }
 {
     let t = work[4 * j];
-    put_row(interp_weights(t, sat_of(number), linear), j, work);
+    let sat = sat_of(number);
+    if let Saturation::None = sat {
+        put_row(cubic_bspline_weights(t), j, work);
+        return;
+    }
+    put_row(interp_weights(t, sat, linear), j, work);
 }
 
 // The rows of m queries, from row number `row` on.

@@ -10,7 +10,7 @@ use Rattle.shape.specs.Refusal.{refusalNumber, answerNumber}
 use Rattle.shape.specs.declared.answers.Refusal.{Refusal}
 use Rattle.shape.specs.declared.answers.Answer.{Answer}
 use Rattle.shape.specs.declared.answers.Answer.the-variants.{Accepted, Refused}
-use Rattle.shape.proofs.Accepted.{refusal-append, passed-append, usable-accepted, storage-is}
+use Rattle.shape.proofs.Accepted.{refusal-append, passed-append, usable-accepted}
 use Rattle.regular.proofs.Total.{in-range}
 use Rattle.regular_blocks.specs.Checks.{anyStepBad, mapAnswer, fromValuesAnswer}
 use Rattle.regular_map.proofs.Steps.{map-steps}
@@ -27,4 +27,4 @@ module _ (count : ℕ) (lens : List ℕ) (steps : List Float) (samples coefs scr
       let r = in-range count lens samples coefs scratch four none in
       let ok = usable-accepted count lens four (r .shape) in
       passed-append (regularFitChecks count lens samples coefs scratch) (refuse 5 (anyStepBad (take count steps)) ∷ []) (omega arith, (omega arith, (omega arith, (omega arith, (omega arith, (omega arith, tt)))))) none
-      ∙ sym (map-steps count lens steps coefs ok (r .coefs-are ∙ sym (storage-is count lens ok)) refl)
+      ∙ sym (map-steps count lens steps coefs ok (r .coefs-are) refl)

@@ -4,3 +4,4 @@ pub mod Builds
 pub mod Total
 pub mod InUse
 pub mod Grids
+pub mod OneQuery

@@ -13,12 +13,11 @@ use borrow.Author.Tests.{eq-eqb, ne-eqb, eqb-true}
 use Rattle.shape.specs.Shape.{size}
 use Rattle.shape.specs.Checks.{refuse, firstRefusal, shapeChecks, lengthCheck, Positive}
 use Rattle.shape.specs.Refusal.{refusalNumber, answerNumber}
-use Rattle.shape.specs.Sizes.{coeffStorageLen}
 use Rattle.shape.specs.Usable.{Usable}
 use Rattle.shape.specs.declared.answers.Refusal.{Refusal}
 use Rattle.shape.specs.declared.answers.Answer.{Answer}
 use Rattle.shape.specs.declared.answers.Answer.the-variants.{Accepted, Refused}
-use Rattle.shape.proofs.Accepted.{refusal-append, accepted-append, prefix-passed, usable, storage-is}
+use Rattle.shape.proofs.Accepted.{refusal-append, accepted-append, prefix-passed, usable}
 use Rattle.multibspline.specs.Numbers.{f0}
 use Rattle.regular_blocks.specs.Checks.{anyStepBad, mapChecks, mapAnswer}
 
@@ -43,13 +42,13 @@ module _ (count : ℕ) (lens : List ℕ) (steps : List Float) (coefs : ℕ) wher
     unfolding mapAnswer
     after = accepted-append count lens ok (lengthCheck (size (take count lens)) coefs ++ refuse 5 (anyStepBad (take count steps)) ∷ [])
 
-    pub map-coefs : (coefs ≡ coeffStorageLen count lens → ⊥) → _≡_ {A = ℕ} 2 (mapAnswer count lens steps coefs)
+    pub map-coefs : (coefs ≡ size (take count lens) → ⊥) → _≡_ {A = ℕ} 2 (mapAnswer count lens steps coefs)
     unfolding firstRefusal
-    map-coefs h = rw (after, ne-eqb coefs (size (take count lens)) (λ e. h (e ∙ sym (storage-is count lens ok))))
+    map-coefs h = rw (after, ne-eqb coefs (size (take count lens)) h)
 
-    pub map-steps : {b : Bool} → coefs ≡ coeffStorageLen count lens → b ≡ anyStepBad (take count steps) → mapAnswer count lens steps coefs ≡ cond b 5 0
+    pub map-steps : {b : Bool} → coefs ≡ size (take count lens) → b ≡ anyStepBad (take count steps) → mapAnswer count lens steps coefs ≡ cond b 5 0
     unfolding firstRefusal
-    map-steps same e = rw (after, eq-eqb coefs (size (take count lens)) (same ∙ storage-is count lens ok), ← e)
+    map-steps same e = rw (after, eq-eqb coefs (size (take count lens)) same, ← e)
 
 -- ---- what an answer of the checks gives
 

@@ -18,6 +18,7 @@ use evaluation::used_lens;
 use shape::Answer;
 use shape::Refusal;
 use shape::Shape;
+use shape::inner::points_of;
 
 // Whether one of the first `count` steps is not above zero. A NaN is not.
 fn any_step_bad(steps: [f64; 4], count: usize) -> bool
@@ -34,7 +35,7 @@ fn any_step_bad(steps: [f64; 4], count: usize) -> bool
     false
 }
 
-// The checks of a record: its shape, the length of its coefficients, its steps.
+// The checks of a record: its shape, which is looked at once, the length of its coefficients, its steps.
 pub fn check_map(count: usize, dims: [usize; 4], steps: [f64; 4], coeffs: usize) -> Answer
     ensures { λ r. ⌜ answerNumber r ≡ mapAnswer count dims steps coeffs ⌝ }
 {
@@ -42,7 +43,7 @@ pub fn check_map(count: usize, dims: [usize; 4], steps: [f64; 4], coeffs: usize)
     if let Answer::Refused(refusal) = shape.check() {
         return Answer::Refused(refusal);
     }
-    if coeffs != shape.coeff_storage_len() {
+    if coeffs != points_of(count, dims) {
         return Answer::Refused(Refusal::DimensionMismatch);
     }
     if any_step_bad(steps, count) {

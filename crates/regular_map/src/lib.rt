@@ -8,6 +8,7 @@ mod eval;
 mod grid;
 mod place;
 mod record;
+mod seat;
 mod single;
 
 pub use answers::Placed;

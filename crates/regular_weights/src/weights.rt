@@ -22,7 +22,9 @@ ghost use Rattle.regular_weights.specs.Weights.{
 use interp_math::mul_add;
 use multibspline::Saturation;
 
-fn cubic_bspline_weights(t: f64) -> [f64; 4]
+// The weights in an inner span. `interp_weights` has these too; a caller that has told the inner span apart goes straight to them,
+// since most queries lie there.
+pub fn cubic_bspline_weights(t: f64) -> [f64; 4]
     ensures { λ r. ⌜ r ≡ cubicBsplineWeights binary64 t ⌝ }
 {
     let t2 = t * t;

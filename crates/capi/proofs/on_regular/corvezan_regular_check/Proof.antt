@@ -2,7 +2,7 @@ use mathlib.Core.Path.{_∙_}
 use denote.Ref.{now}
 use Rattle.capi_parts.specs.Regular.{gridReadyChecks}
 use Rattle.capi_parts.proofs.Guards.{refused-some}
-use Rattle.capi_parts.proofs.Evaluated.{regular-checked}
+use Rattle.capi_parts.proofs.Evaluated.{grid-long, regular-checked}
 use borrow.Author.Needs.{needs}
 use Rattle.capi.proofs.on_regular.corvezan_regular_check.Statement.{statement}
 use Rattle.capi.proofs.on_regular.corvezan_regular_check.Tie as tie
@@ -32,7 +32,7 @@ returns-2 : tie.Need-returns-2
 returns-2 c =
     let a = (c .before .before .before .before .before .before .before .before .before .before) .args in
     let told = (c .before .before .before .before .before .before) .number .ensures ∙ (c .before .before .before .before .before .before .before) .check-grid .ensures in
-    c .number2 .ensures ∙ regular-checked (now (a .dims)) (now (a .grid)) told ((c .before .before .before .before .before) .if1 .left) _ ((c .before .before .before .before) .regular-map-of .ensures) (a .coeffs-len) ((c .before) .check-map .ensures)
+    c .number2 .ensures ∙ regular-checked (now (a .dims)) (now (a .grid)) (grid-long (now (a .dims)) (now (a .grid)) told ((c .before .before .before .before .before) .if1 .left)) _ ((c .before .before .before .before) .regular-map-of .ensures) (a .coeffs-len) ((c .before) .check-map .ensures)
 
 pub corvezan-regular-check-spec : {M : Type 1} → statement M
 corvezan-regular-check-spec =

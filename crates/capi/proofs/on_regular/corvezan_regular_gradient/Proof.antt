@@ -5,7 +5,7 @@ use Rattle.capi_parts.specs.Inputs.{isOn}
 use Rattle.capi_parts.specs.Regular.{gridReadyChecks, regularSpline}
 use native.Mathlib.Omega.{arith}
 use Rattle.capi_parts.proofs.Guards.{refused-some, wrote-nothing, slopes-not, slopes-wrote}
-use Rattle.capi_parts.proofs.Evaluated.{at-most-four, regular-gradient}
+use Rattle.capi_parts.proofs.Evaluated.{grid-long, at-most-four, regular-gradient}
 use borrow.Author.Needs.{needs}
 use Rattle.capi.proofs.on_regular.corvezan_regular_gradient.Statement.{statement}
 use Rattle.capi.proofs.on_regular.corvezan_regular_gradient.Tie as tie
@@ -52,7 +52,8 @@ returns-3 : tie.Need-returns-3
 returns-3 c =
     let a = (c .before .before .before .before .before .before .before .before .before .before .before .before .before .before .before) .args in
     let told = (c .before .before .before .before .before .before .before) .number .ensures ∙ (c .before .before .before .before .before .before .before .before) .check-grid .ensures in
-    regular-gradient (now (a .dims)) (now (a .grid)) told ((c .before .before .before .before .before .before) .if2 .left) binary64 (isOn (a .linear)) (now (a .coeffs)) _ ((c .before .before .before .before .before) .regular-map-of .ensures) (now (a .x)) (now (a .slopes)) ((c .before .before .before .before .before .before .before .before .before) .if1 .left) ((c .before .before .before .before) .interp-one-grad .ensures) ((c .before .before) .put-gradient .ensures)
+    let z = (c .before .before .before .before .before .before) .if2 .left in
+    regular-gradient (now (a .dims)) (now (a .grid)) (grid-long (now (a .dims)) (now (a .grid)) told z) binary64 (isOn (a .linear)) (now (a .coeffs)) _ ((c .before .before .before .before .before) .regular-map-of .ensures) (at-most-four (now (a .dims)) (now (a .grid)) told z) (now (a .x)) (now (a .slopes)) ((c .before .before .before .before .before .before .before .before .before) .if1 .left) ((c .before .before .before .before) .interp-one-grad .ensures) ((c .before .before) .put-gradient .ensures)
 
 pub corvezan-regular-gradient-spec : {M : Type 1} → statement M
 corvezan-regular-gradient-spec =

@@ -4,50 +4,24 @@ use lib.Ieee.{binary64}
 use Rattle.capi_parts.specs.Inputs.{isOn}
 use Rattle.capi_parts.specs.Regular.{gridReadyChecks, regularSpline}
 use Rattle.capi_parts.proofs.Guards.{refused-some, gradients-not}
-use Rattle.capi_parts.proofs.Evaluated.{regular-gradients}
+use Rattle.capi_parts.proofs.Evaluated.{grid-refused, regular-gradients}
 use borrow.Author.Needs.{needs}
 use Rattle.capi.proofs.on_regular.corvezan_regular_gradients.Statement.{statement}
 use Rattle.capi.proofs.on_regular.corvezan_regular_gradients.Tie as tie
 
-check-grid-requires : tie.Need-check-grid-requires
-check-grid-requires c κs = search needs
-
-number-requires : tie.Need-number-requires
-number-requires c κs = search needs
-
 returns : tie.Need-returns
 returns c =
     let a = (c .before .before .before .before .before .before .before .before) .args in
-    let told = (c .before) .number .ensures ∙ (c .before .before) .check-grid .ensures in
-    gradients-not (c .if1 .taken) (regularSpline binary64 (now (a .dims)) (now (a .grid)) (isOn (a .linear)) (now (a .coeffs))) (refused-some (gridReadyChecks (now (a .dims)) (now (a .grid))) _ _ told (c .if1 .taken)) (now (a .x)) (now (a .slopes))
-
-map-of-requires : tie.Need-regular-map-of-requires
-map-of-requires c κs = search needs
-
-interp-grad-requires : tie.Need-interp-grad-requires
-interp-grad-requires c κs = search needs
-
-number-requires-2 : tie.Need-number-requires-2
-number-requires-2 c κs = search needs
-
-same-length : tie.Need-same-length
-same-length c = search needs
+    let told = c .number .ensures ∙ (c .before) .check-grid .ensures in
+    let some = grid-refused (now (a .dims)) (now (a .grid)) ((c .before .before) .if1 .taken) told in
+    gradients-not some (regularSpline binary64 (now (a .dims)) (now (a .grid)) (isOn (a .linear)) (now (a .coeffs))) (refused-some (gridReadyChecks (now (a .dims)) (now (a .grid))) _ _ told some) (now (a .x)) (now (a .slopes))
 
 returns-2 : tie.Need-returns-2
 returns-2 c =
-    let a = (c .before .before .before .before .before .before .before .before .before .before .before .before .before .before) .args in
-    let told = (c .before .before .before .before .before .before .before) .number .ensures ∙ (c .before .before .before .before .before .before .before .before) .check-grid .ensures in
-    rw (c .number2 .ensures) (regular-gradients (now (a .dims)) (now (a .grid)) told ((c .before .before .before .before .before .before) .if1 .left) binary64 (isOn (a .linear)) (now (a .coeffs)) _ ((c .before .before .before .before .before) .regular-map-of .ensures) (now (a .x)) (now (a .slopes)) ((c .before .before .before) .interp-grad .ensures))
+    let a = (c .before .before .before .before .before .before .before .before .before .before .before .before) .args in
+    rw (c .number2 .ensures) (regular-gradients (now (a .dims)) (now (a .grid)) ((c .before .before .before .before .before .before) .if1 .left) binary64 (isOn (a .linear)) (now (a .coeffs)) _ ((c .before .before .before .before .before) .regular-map-of .ensures) (now (a .x)) (now (a .slopes)) ((c .before .before .before) .interp-grad .ensures))
 
 pub corvezan-regular-gradients-spec : {M : Type 1} → statement M
 corvezan-regular-gradients-spec =
     tie.close
-    (tie.spec
-    check-grid-requires
-    number-requires
-    returns
-    map-of-requires
-    interp-grad-requires
-    number-requires-2
-    same-length
-    returns-2)
+    (tie.spec (λ c. search needs) (λ c κs. search needs) (λ c κs. search needs) returns (λ c κs. search needs) (λ c κs. search needs) (λ c κs. search needs) (λ c. search needs) returns-2)

@@ -1,57 +1,50 @@
+use mathlib.Core.Path.{_≡_}
 use native.Mathlib.Omega.{arith}
-use Rattle.evaluation.proofs.Striding.{Striding, striding-start, striding-fits, striding-next, striding-done}
+use borrow.Author.Needs.{needs}
+use Rattle.interp_math.proofs.Four.{is-four}
+use Rattle.evaluation.proofs.Striding.{strides-of-1, strides-of-2, strides-of-3, strides-of-4, small-of-3, last-of-4, small-of-4}
 use Rattle.evaluation.proofs.strides.strides_of.Statement.{statement}
 use Rattle.evaluation.proofs.strides.strides_of.Tie as tie
 
-abbrev Inv : tie.InvT-loop
-Inv count dims strides₀ next₀ axis₀ strides next axis = Striding count dims strides next axis
-
-abbrev μ : tie.MeasureT-loop
-μ count dims strides₀ next₀ axis₀ strides next axis = axis
-
-loop-holds : tie.Need-loop-holds Inv μ
-loop-holds c = striding-start _ _ (omega (arith, c .good)) (c .pre)
-
-mul-strides : tie.Need-mul-strides Inv μ
-mul-strides c = record { fits = omega (arith, c .before .loop .inv .most, c .before .before .pre .at-most-four) }
-
-array-write-strides : tie.Need-array-write-strides Inv μ
-array-write-strides c = omega (arith, c .loop-test .taken, c .before .loop .inv .most, c .before .before .pre .at-most-four)
-
-mul-next : tie.Need-mul-next Inv μ
-mul-next c = record { fits = omega (arith, c .before .loop .inv .most, c .before .before .pre .at-most-four) }
-
-array-read-next : tie.Need-array-read-next Inv μ
-array-read-next c = omega (arith, c .loop-test .taken, c .before .loop .inv .most, c .before .before .pre .at-most-four)
-
-mul-next-2 : tie.Need-mul-next-2 Inv μ
-mul-next-2 c =
-    let s = c .before .before in
-    record { fits = omega (arith, striding-fits _ _ (omega (arith, s .good)) (s .pre) _ (c .before .loop .inv) (c .loop-test .taken)) }
-
-loop-again : tie.Need-loop-again Inv μ
-loop-again c =
-    let s = c .before .before in
-    striding-next _ _ (omega (arith, s .good)) (s .pre) _ (c .before .loop .inv) (c .loop-test .taken)
-
-returns : tie.Need-returns Inv μ
+returns : tie.Need-returns
 returns c =
+    let s = c .before in
+    rw (c .if1 .taken) (strides-of-1 (s .args .t2) (omega (arith, s .good)))
+
+returns-2 : tie.Need-returns-2
+returns-2 c =
     let s = c .before .before in
-    striding-done _ _ (omega (arith, s .good)) (s .pre) (c .before .loop .inv) (c .loop-test .left)
+    rw (c .if2 .taken) (strides-of-2 (s .args .t2) (omega (arith, s .good)))
+
+mul-t15 : tie.Need-mul-t15
+mul-t15 c =
+    let s = c .before .before .before in
+    omega (arith, small-of-3 (s .args .t2) (omega (arith, s .good)) (rw (c .if3 .taken) at (s .pre)))
+
+returns-3 : tie.Need-returns-3
+returns-3 c =
+    let s = c .before .before .before in
+    rw (c .if3 .taken) (strides-of-3 (s .args .t2) (omega (arith, s .good)))
+
+mul-last : tie.Need-mul-last
+mul-last c =
+    let s = c .before .before .before in
+    let is : s .args .count ≡ 4 = is-four (s .args .count) (s .pre .some-axis) (s .pre .at-most-four) (c .before .before .if1 .left) (c .before .if2 .left) (c .if3 .left) in
+    omega (arith, last-of-4 (s .args .t2) (omega (arith, s .good)) (rw is at (s .pre)))
+
+mul-first : tie.Need-mul-t24
+mul-first c =
+    let s = c .before .before .before in
+    let is : s .args .count ≡ 4 = is-four (s .args .count) (s .pre .some-axis) (s .pre .at-most-four) (c .before .before .if1 .left) (c .before .if2 .left) (c .if3 .left) in
+    omega (arith, small-of-4 (s .args .t2) (omega (arith, s .good)) (rw is at (s .pre)))
+
+returns-4 : tie.Need-returns-4
+returns-4 c =
+    let s = c .before .before .before in
+    let is : s .args .count ≡ 4 = is-four (s .args .count) (s .pre .some-axis) (s .pre .at-most-four) (c .before .before .if1 .left) (c .before .if2 .left) (c .if3 .left) in
+    rw is (strides-of-4 (s .args .t2) (omega (arith, s .good)))
 
 pub strides-of-spec : {M : Type 1} → statement M
 strides-of-spec =
     tie.close
-    (tie.spec
-    Inv
-    μ
-    loop-holds
-    (λ c. omega (arith, c .loop-test .taken))
-    mul-strides
-    array-write-strides
-    mul-next
-    array-read-next
-    mul-next-2
-    (λ c. omega (arith, c .loop-test .taken))
-    loop-again
-    returns)
+    (tie.spec returns (λ c. search needs) returns-2 (λ c. search needs) (λ c. search needs) mul-t15 (λ c. search needs) returns-3 (λ c. search needs) (λ c. search needs) mul-last (λ c. search needs) mul-first (λ c. search needs) returns-4)

@@ -1,58 +1,60 @@
-use mathlib.Core.Path.{_≡_, refl}
+use mathlib.Core.Path.{_≡_, refl, _∙_}
+use mathlib.Core.List.{[], _∷_}
+use Prim.Native.Nat.{_+_, _*_}
 use native.Mathlib.Omega.{arith}
 use denote.Ref.{now}
+use lib.ListN.{getD}
 use lib.Ieee.{binary64}
 use borrow.Author.Needs.{needs}
-use Rattle.evaluation.proofs.ByAxis.{entries-reach, entry-stops, block-values}
-use Rattle.evaluation.proofs.Entries.{last-stride}
-use Rattle.evaluation.proofs.Outcomes.{value-refused}
-use Rattle.evaluation.proofs.Singles.{single-value}
-use Rattle.regular_blocks.proofs.Room.{roomy}
-use Rattle.regular_blocks.proofs.Stages.{weights-are}
+use Rattle.interp_math.proofs.Tables.{lanes-none}
+use Rattle.regular_map.proofs.OneQuery.{looked-start, looked-axis, looked-refused, looked-small, looked-on, last-reaches, last-value}
 use Rattle.regular_map.proofs.single.value_at.Statement.{statement}
 use Rattle.regular_map.proofs.single.value_at.Tie as tie
 
-place-axes-requires : tie.Need-place-axes-requires
-place-axes-requires c κs =
-    let s = c .before .before .before .before .before .before .before .before .before .before .before .before in
-    let few = s .pre .0 .shape .at-most-four in (
-      (s .pre .0, record { block = omega arith; batch = omega arith; coordinates = omega (arith, s .pre .2); in-spots = omega (arith, few); in-work = omega (arith, few) }),
-      (λ k h. let e : k ≡ 0 = omega arith in rw e refl),
-    )
+seat-of-requires : tie.Need-seat-of-requires
+seat-of-requires c κs =
+    let a = c .before .before .before .before .before .before .args in
+    let p = c .before .before .before .before .before .before .pre in
+    looked-axis binary64 (looked-start binary64 (a .grid) (now (a .coeffs)) (now (a .x)) p)
 
 returns : tie.Need-returns
 returns c =
-    let s = c .before .before .before .before .before .before .before .before .before .before .before .before .before .before .before .before in
-    let w = c .before .before .before .place-axes .ensures (s .args .grid .linear) .firsts in
-    let none : c .before .before .before .place-axes .result ≡ 0 = omega (arith, c .if1 .taken) in
-    value-refused _ _ (rw none at (entry-stops _ _ _ _ _ w (c .if1 .taken)))
+    let a = c .before .before .before .before .before .before .before .before .before .args in
+    let p = c .before .before .before .before .before .before .before .before .before .pre in
+    looked-refused binary64 (looked-start binary64 (a .grid) (now (a .coeffs)) (now (a .x)) p) (c .before .before .seat-of .ensures) (c .if1 .taken)
 
-weigh-axes-requires : tie.Need-weigh-axes-requires
-weigh-axes-requires c κs =
-    let s = c .before .before .before .before .before .before .before .before .before .before .before .before .before .before .before .before .before .before in
-    let g = c .before .before .before .before .before .place-axes in
-    let few = s .pre .0 .shape .at-most-four in
-    (g .ensures (s .args .grid .linear) .firsts .most, omega (arith, few, g .kept .1 .1 .1 .1 .1 .1 .1 .0), omega (arith, few, g .kept .1 .1 .1 .1 .1 .1 .1 .1 .0))
-
-put-values-requires : tie.Need-put-values-requires
-put-values-requires c κs =
-    let s = c .before .before .before .before .before .before .before .before .before .before .before .before .before .before .before .before .before .before .before .before .before .before .before .before in
-    let r = s .pre .0 in
-    let few = r .shape .at-most-four in
-    let g = c .before .before .before .before .before .before .before .before .before .before .before .place-axes in
-    let v = c .before .before .before .before .before .weigh-axes in
-    let w = g .ensures (s .args .grid .linear) .firsts in
-    (r .shape .some-axis, few, last-stride r, w .most, omega (arith, w .most, g .kept .1 .1 .1 .1 .1 .1 .1 .0), omega (arith, few, g .kept .1 .1 .1 .1 .1 .1 .1 .1 .0, v .kept .1 .1 .1 .1 .1 .0), omega (arith, w .most), entries-reach _ _ _ _ _ w (roomy binary64 _ (r .four) (r .shape)) (r .strides-are) (s .pre .1))
+neighbours-requires : tie.Need-neighbours-requires
+neighbours-requires c κs =
+    let s = c .before .before .before .before .before .before in
+    let a = s .before .before .before .before .before .before .before .args in
+    let p = s .before .before .before .before .before .before .before .pre in
+    let q = last-reaches binary64 (looked-start binary64 (a .grid) (now (a .coeffs)) (now (a .x)) p) (s .seat-of .ensures) (c .before .before .before .before .if1 .left) (c .before .before .weights-of .ensures) (c .if2 .taken) refl in
+    omega (arith, q .0, q .1)
 
 returns-2 : tie.Need-returns-2
 returns-2 c =
-    let s = c .before .before .before .before .before .before .before .before .before .before .before .before .before .before .before .before .before .before .before .before .before .before .before .before .before .before in
-    let r = s .pre .0 in
-    let w = c .before .before .before .before .before .before .before .before .before .before .before .before .before .place-axes .ensures (s .args .grid .linear) in
-    let b = block-values _ _ _ _ _ (w .firsts) binary64 _ (now (s .args .coeffs)) (r .strides-are) (r .shape .at-most-four) _ (weights-are binary64 _ _ _ _ _ _ _ w (c .before .before .before .before .before .before .before .weigh-axes .ensures)) (c .before .put-values .ensures) in
-    single-value _ _ b (omega arith) (c .before .before .before .before .before .before .before .before .before .before .if1 .left)
+    let s = c .before .before .before .before .before .before .before .before in
+    let a = s .before .before .before .before .before .before .before .args in
+    let p = s .before .before .before .before .before .before .before .pre in
+    let e : s .seat-of .result .origin ≡ 0 + s .seat-of .result .origin = omega arith in
+    last-value binary64 (looked-start binary64 (a .grid) (now (a .coeffs)) (now (a .x)) p) (s .seat-of .ensures) (c .before .before .before .before .before .before .if1 .left) (c .before .before .before .before .weights-of .ensures) (c .before .before .if2 .taken) e ([] ∷ [] ∷ [] ∷ []) refl (c .before .neighbours .ensures ∙ lanes-none binary64 (now (a .coeffs)) (a .grid .strides) _ _) (c .dot4 .ensures)
+
+mul-next : tie.Need-mul-from-axis-1
+mul-next c =
+    let s = c .before .before .before .before .before .before .before in
+    let a = s .before .before .before .before .before .before .before .args in
+    let p = s .before .before .before .before .before .before .before .pre in
+    omega (arith, looked-small binary64 (looked-start binary64 (a .grid) (now (a .coeffs)) (now (a .x)) p) (s .seat-of .ensures) (c .before .before .before .before .before .if1 .left) (c .before .before .before .weights-of .ensures))
+
+next-requires : tie.Need-from-axis-1-requires
+next-requires c κs =
+    let s = c .before .before .before .before .before .before .before in
+    let a = s .before .before .before .before .before .before .before .args in
+    let p = s .before .before .before .before .before .before .before .pre in
+    let e : s .seat-of .result .origin * getD (a .grid .strides) 0 0 ≡ 0 + s .seat-of .result .origin * getD (a .grid .strides) 0 0 = omega arith in
+    looked-on binary64 (looked-start binary64 (a .grid) (now (a .coeffs)) (now (a .x)) p) (s .seat-of .ensures) (c .before .before .before .before .before .if1 .left) (c .before .before .before .weights-of .ensures) (c .before .if2 .left) e
 
 pub value-at-spec : {M : Type 1} → statement M
 value-at-spec =
     tie.close
-    (tie.spec (λ c. search needs) (λ c. search needs) place-axes-requires returns (λ c. search needs) (λ c. search needs) weigh-axes-requires (λ c. search needs) (λ c. search needs) (λ c. search needs) put-values-requires (λ c. search needs) returns-2)
+    (tie.spec (λ c. search needs) (λ c. search needs) (λ c. search needs) (λ c. search needs) seat-of-requires returns (λ c κs. search needs) neighbours-requires (λ c κs. search needs) returns-2 (λ c. search needs) mul-next next-requires (λ c. search needs))
