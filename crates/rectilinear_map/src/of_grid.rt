@@ -38,8 +38,8 @@ use rectilinear_weights::low_ghost_coeffs;
 use shape::Answer;
 use shape::Refusal;
 
-// The weights at x, with c knots below it. The ends are asked for by name: a second caller of `interp_weights` or of
-// `inner_weights` keeps the compiler from putting them into the loops of the blocks, which slows the batches.
+// The weights at x, with c knots below it. The ends are asked for by name: a second caller of `interp_weights`, or of
+// `inner_weights`, slows the batches by some percent.
 fn own_weights(knots: &[f64], linear: bool, c: usize, x: f64) -> [f64; 4]
     requires { ⌜ (4 ≤ length (now knots)) × (c ≡ countBelow (now knots) x) ⌝ }
     ensures { λ r. ⌜ r ≡ placeWeights binary64 (now (knots .entry)) (lowGhostCoeffs binary64 (now (knots .entry))) (highGhostCoeffs binary64 (now (knots .entry))) linear x ⌝ }

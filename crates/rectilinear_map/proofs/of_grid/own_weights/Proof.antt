@@ -1,6 +1,4 @@
 use denote.Ref.{now}
-use Prim.Native.Nat.{_+_, _<_}
-use lib.ListN.{length}
 use borrow.Author.Needs.{needs}
 use Rattle.knots.proofs.Places.{get-loc-within}
 use Rattle.rectilinear_weights.specs.Weights.{interpWeights}
