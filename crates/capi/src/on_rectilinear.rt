@@ -59,14 +59,11 @@ pub extern "C" fn corvezan_rectilinear_value(
         (rectilinearSpline binary64 (now (dims .entry)) (now (grid .entry)) (isOn linear) (now (coeffs .entry)) .value (query (length (now (dims .entry))) (now (x .entry)) 1 0))
         (now (value .entry)) n (now (value .exit)) ⌝ }
 {
-    let built = rectilinear_map_of(dims, grid, linear);
-    let answer = built.answer;
-    let map = built.map;
-    let refused = number(answer);
-    if refused != 0 {
-        return refused;
-    }
-    put_value(map.interp_one(grid, coeffs, x), value)
+    let shape = shape_of(dims);
+    put_value(
+        MultiBsplineRectilinear::value_of_grid(shape, grid, coeffs, linear != 0, x),
+        value,
+    )
 }
 
 #[no_mangle]

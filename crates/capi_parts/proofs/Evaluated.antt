@@ -145,16 +145,16 @@ module _ (dims : List ℕ) (grid : List Float) {k : ℕ} (told : k ≡ firstRefu
 
 -- ---- a rectilinear map: the map that is built of the grid is the one that C hands over
 
+pub made-handed : (f : Format) (dims : List ℕ) (grid : List Float) (linear : Bool) → made f (length dims) (lensOf dims) grid linear ≡ rectilinearMap f dims grid linear
+unfolding made
+made-handed f dims grid linear = rw (lens-used dims)
+
 pub handed : (f : Format) (dims : List ℕ) (grid : List Float) (linear : Bool) → {answer : ℕ} {map : RectilinearMap}
     → BuiltFrom (gridAnswer (length dims) (lensOf dims) grid) (made f (length dims) (lensOf dims) grid linear) blank answer map
     → Handed (gridAnswer (length dims) (lensOf dims) grid) (rectilinearMap f dims grid linear) answer map
-unfolding gridAnswer made
 handed f dims grid linear w = record {
   answers = w .answers;
-  map = λ z.
-      let ok = sym (w .answers) ∙ z in
-      let few = usable (length dims) (lensOf dims) (four-lens dims) (prefix-passed (shapeChecks (length dims) (lensOf dims)) _ ok) .at-most-four in
-      w .map ∙ rw (ok, lens-used dims few);
+  map = λ z. let ok = sym (w .answers) ∙ z in w .map ∙ rw ok (made-handed f dims grid linear);
 }
 
 module _ (dims : List ℕ) (grid : List Float) {n : ℕ} (told : n ≡ gridAnswer (length dims) (lensOf dims) grid) where

@@ -2,11 +2,12 @@
 use mathlib.Core.Path.{_≡_, refl}
 use mathlib.Core.Bool.{Bool, true, false, cond}
 use mathlib.Core.List.{List, [], _∷_}
-use Prim.Native.Nat.{ℕ, zero, suc, _≤_, _<_}
+use Prim.Native.Nat.{ℕ, zero, suc, _<_}
 use native.Mathlib.Nat.{not-suc-le-zero, le-of-suc-le-suc}
 use native.Mathlib.Omega.{arith}
 use lib.Dec.{ltb}
 use lib.ListN.{length, getD}
+use borrow.Author.Tests.{lt-ltb}
 use Rattle.evaluation.specs.Axes.{inUse}
 use Rattle.capi_parts.specs.Inputs.{lensOf, AxesAre}
 
@@ -26,14 +27,16 @@ axes-are-dims (a ∷ b ∷ c ∷ d ∷ []) h = refl
 axes-are-dims (a ∷ b ∷ c ∷ d ∷ e ∷ es) h = absurd (omega (arith, h))
 
 -- entries for axes not in use are zero already
-pub lens-used : (dims : List ℕ) → length dims ≤ 4 → inUse 0 0 (length dims) (lensOf dims) ≡ lensOf dims
+pub lens-used : (dims : List ℕ) → inUse 0 0 (length dims) (lensOf dims) ≡ lensOf dims
 unfolding lensOf inUse
-lens-used [] h = refl
-lens-used (a ∷ []) h = refl
-lens-used (a ∷ b ∷ []) h = refl
-lens-used (a ∷ b ∷ c ∷ []) h = refl
-lens-used (a ∷ b ∷ c ∷ d ∷ []) h = refl
-lens-used (a ∷ b ∷ c ∷ d ∷ e ∷ es) h = absurd (omega (arith, h))
+lens-used [] = refl
+lens-used (a ∷ []) = refl
+lens-used (a ∷ b ∷ []) = refl
+lens-used (a ∷ b ∷ c ∷ []) = refl
+lens-used (a ∷ b ∷ c ∷ d ∷ []) = refl
+lens-used (a ∷ b ∷ c ∷ d ∷ e ∷ es) =
+    let n = length (a ∷ b ∷ c ∷ d ∷ e ∷ es) in
+    rw (lt-ltb 4 n (omega arith), lt-ltb 0 n (omega arith), lt-ltb 1 n (omega arith), lt-ltb 2 n (omega arith), lt-ltb 3 n (omega arith))
 
 pub four-lens : (dims : List ℕ) → length (lensOf dims) ≡ 4
 unfolding lensOf

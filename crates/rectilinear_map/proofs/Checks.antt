@@ -10,11 +10,10 @@ use lib.Ieee.{Float}
 use Rattle.shape.specs.Shape.{size}
 use Rattle.shape.specs.Checks.{Check, firstRefusal, shapeChecks, lengthCheck, Positive}
 use Rattle.shape.specs.Refusal.{refusalNumber, answerNumber}
-use Rattle.shape.specs.Sizes.{coeffStorageLen}
 use Rattle.shape.specs.declared.answers.Refusal.{Refusal}
 use Rattle.shape.specs.declared.answers.Answer.{Answer}
 use Rattle.shape.specs.declared.answers.Answer.the-variants.{Accepted, Refused}
-use Rattle.shape.proofs.Accepted.{refusal-append, accepted-append, prefix-passed, storage-is, usable, axes-are}
+use Rattle.shape.proofs.Accepted.{refusal-append, accepted-append, prefix-passed, usable, axes-are}
 use Rattle.shape.proofs.Checks.{check-fails, check-passes, check-passed, length-fails, length-passes, length-passed}
 use Rattle.knots.specs.Joined.{total, allRise}
 use Rattle.knots.specs.Checks.{gridCheck, knotsCheck}
@@ -62,12 +61,12 @@ module _ (count : ℕ) (lens : List ℕ) (grid : List Float) (coefs : ℕ) where
       after-grid : mapAnswer count lens grid coefs ≡ firstRefusal (lengthCheck (size (take count lens)) coefs ++ knotsCheck (take count lens) grid)
       after-grid = after-shape ∙ length-passes _ (total (take count lens)) (length grid) joined
 
-      pub map-coefs : (coefs ≡ coeffStorageLen count lens → ⊥) → _≡_ {A = ℕ} 2 (mapAnswer count lens grid coefs)
-      map-coefs h = length-fails _ (size (take count lens)) coefs (λ e. h (e ∙ sym (storage-is count lens ok))) ∙ sym after-grid
+      pub map-coefs : (coefs ≡ size (take count lens) → ⊥) → _≡_ {A = ℕ} 2 (mapAnswer count lens grid coefs)
+      map-coefs h = length-fails _ (size (take count lens)) coefs h ∙ sym after-grid
 
-      module _ (sized : coefs ≡ coeffStorageLen count lens) (four : length lens ≡ 4) where
+      module _ (sized : coefs ≡ size (take count lens)) (four : length lens ≡ 4) where
         after-coefs : mapAnswer count lens grid coefs ≡ firstRefusal (knotsCheck (take count lens) grid)
-        after-coefs = after-grid ∙ length-passes _ (size (take count lens)) coefs (sized ∙ storage-is count lens ok)
+        after-coefs = after-grid ∙ length-passes _ (size (take count lens)) coefs sized
 
         axes : length (take count lens) ≡ count
         axes = axes-are count lens four (usable count lens four ok)

@@ -3,3 +3,4 @@ pub mod Placing
 pub mod Total
 pub mod InUse
 pub mod Grids
+pub mod OwnGhosts

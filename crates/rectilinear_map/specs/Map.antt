@@ -21,7 +21,7 @@ lowGhosts f count lens grid = perAxis noGhost count (λ a. lowGhostCoeffs f (kno
 unfoldable pub highGhosts : Format → ℕ → List ℕ → List Float → List (List Float)
 highGhosts f count lens grid = perAxis noGhost count (λ a. highGhostCoeffs f (knotsOf grid (take count lens) a))
 
--- the map that building makes, and nothing but zeros
+-- the map that building makes
 unfoldable pub made : Format → ℕ → List ℕ → List Float → Bool → RectilinearMap
 made f count lens grid linear = record {
   count = count;
@@ -31,6 +31,17 @@ made f count lens grid linear = record {
   linear = linear;
 }
 
+-- the same with the lengths as they are handed over: entries for axes not in use are not looked at
+abbrev pub ofGrid : Format → ℕ → List ℕ → List Float → Bool → RectilinearMap
+ofGrid f count lens grid linear = record {
+  count = count;
+  lens = lens;
+  low = lowGhosts f count lens grid;
+  high = highGhosts f count lens grid;
+  linear = linear;
+}
+
+-- nothing but zeros
 abbrev pub blank : RectilinearMap
 blank = record {
   count = 0;

@@ -28,6 +28,7 @@ use rectilinear_weights::low_ghost_coeffs;
 use shape::Answer;
 use shape::Refusal;
 use shape::Shape;
+use shape::inner::points_of;
 
 // The checks of a record and its grid: the shape, the length of the joined grid, that of the coefficients, the knots.
 pub fn check_map(count: usize, dims: [usize; 4], grid: &[f64], coeffs: usize) -> Answer
@@ -40,7 +41,7 @@ pub fn check_map(count: usize, dims: [usize; 4], grid: &[f64], coeffs: usize) ->
     if grid.len() != grid_len(count, dims) {
         return Answer::Refused(Refusal::DimensionMismatch);
     }
-    if coeffs != shape.coeff_storage_len() {
+    if coeffs != points_of(count, dims) {
         return Answer::Refused(Refusal::DimensionMismatch);
     }
     if !all_rise(grid, count, dims) {

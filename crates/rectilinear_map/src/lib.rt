@@ -6,6 +6,7 @@ mod blocks;
 mod build;
 mod eval;
 mod grid;
+mod of_grid;
 mod place;
 mod record;
 mod single;

@@ -9,6 +9,7 @@ ghost use Rattle.rectilinear.specs.Fit.{RectilinearFitted};
 ghost use Rattle.evaluation.specs.Records.{valuedNumber, valuedValue};
 ghost use Rattle.evaluation.specs.Spline.{OneValue, OneGradient};
 ghost use Rattle.evaluation.specs.Batch.{ValueBatch, GradientBatch};
+ghost use Rattle.rectilinear_map.specs.Map.{made};
 ghost use Rattle.rectilinear_map.specs.Records.{mapOf, BuiltAs, BuiltByFit};
 ghost use Rattle.rectilinear_map.specs.Place.{RectilinearPlaced};
 ghost use Rattle.rectilinear_blocks.specs.Eval.{gridAnswer, mapAnswer, rectilinear};
@@ -16,6 +17,7 @@ use crate::answers::Placed;
 use crate::batch;
 use crate::build;
 use crate::eval;
+use crate::of_grid;
 use crate::place;
 use evaluation::Gradient;
 use evaluation::Valued;
@@ -129,6 +131,21 @@ impl MultiBsplineRectilinear {
     {
         let dims = shape.dims;
         build::of_grid(shape.count, dims, grid, linearize_extrapolation)
+    }
+
+    // The value at a query of the map that `new` builds, with the refusals of interp_one, for a caller that has no map: the ghost
+    // numbers of an axis are worked out only where the query lies at an end of it.
+    pub fn value_of_grid(
+        shape: Shape,
+        grid: &[f64],
+        coeffs: &[f64],
+        linear: bool,
+        x: &[f64],
+    ) -> Valued
+        ensures { λ r. ⌜ OneValue (rectilinear binary64 (made binary64 (shape .count) (shape .dims) (now (grid .entry)) linear) (now (grid .entry)) (now (coeffs .entry))) (now (x .entry)) (valuedNumber r) (valuedValue r) ⌝ }
+    {
+        let dims = shape.dims;
+        of_grid::value(shape.count, dims, grid, linear, coeffs, x)
     }
 
     // Fits the values, then builds the map. The refusals of the fit, with `coeffs` and `scratch` untouched; a map whose fit

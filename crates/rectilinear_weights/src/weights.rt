@@ -61,7 +61,7 @@ fn linearized_boundary_weights(grid: &[f64], span: usize, endpoint: f64, x: f64)
     ]
 }
 
-fn low_boundary_weights(
+pub fn low_boundary_weights(
     grid: &[f64],
     x: f64,
     linearize_extrapolation: bool,
@@ -91,7 +91,7 @@ fn low_boundary_weight_derivatives(
     fold_low(low_ghost, basis_span_weight_derivatives(grid, 0, x))
 }
 
-fn high_boundary_weights(
+pub fn high_boundary_weights(
     grid: &[f64],
     x: f64,
     linearize_extrapolation: bool,

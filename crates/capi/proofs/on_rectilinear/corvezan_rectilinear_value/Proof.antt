@@ -1,48 +1,26 @@
-use mathlib.Core.Path.{sym, _∙_}
 use denote.Ref.{now}
-use lib.ListN.{length}
 use lib.Ieee.{binary64}
-use Rattle.capi_parts.specs.Inputs.{isOn}
-use Rattle.capi_parts.specs.Rectilinear.{rectilinearSpline}
-use Rattle.capi_parts.proofs.Guards.{wrote-nothing, one-not}
-use Rattle.capi_parts.proofs.Evaluated.{rectilinear-refused, rectilinear-value}
 use borrow.Author.Needs.{needs}
+use Rattle.capi_parts.specs.Inputs.{isOn}
+use Rattle.capi_parts.proofs.Evaluated.{made-handed, rectilinear-value}
 use Rattle.capi.proofs.on_rectilinear.corvezan_rectilinear_value.Statement.{statement}
 use Rattle.capi.proofs.on_rectilinear.corvezan_rectilinear_value.Tie as tie
 
-map-of-requires : tie.Need-rectilinear-map-of-requires
-map-of-requires c κs = search needs
+shape-of-requires : tie.Need-shape-of-requires
+shape-of-requires c κs = search needs
 
-number-requires : tie.Need-number-requires
-number-requires c κs = search needs
-
-returns : tie.Need-returns
-returns c =
-    let a = (c .before .before .before .before .before .before .before .before) .args in
-    let m = (c .before .before .before) in
-    let told = (c .before) .number .ensures ∙ m .rectilinear-map-of .ensures .answers in
-    wrote-nothing (c .if1 .taken) (one-not (c .if1 .taken) (rectilinearSpline binary64 (now (a .dims)) (now (a .grid)) (isOn (a .linear)) (now (a .coeffs))) (rectilinear-refused (now (a .dims)) (now (a .grid)) told (length (now (a .coeffs))) (c .if1 .taken)) (now (a .x)))
-
-interp-one-requires : tie.Need-interp-one-requires
-interp-one-requires c κs = search needs
+value-of-grid-requires : tie.Need-value-of-grid-requires
+value-of-grid-requires c κs = search needs
 
 put-value-requires : tie.Need-put-value-requires
 put-value-requires c κs = search needs
 
-returns-2 : tie.Need-returns-2
-returns-2 c =
-    let a = (c .before .before .before .before .before .before .before .before .before .before .before) .args in
-    let m = (c .before .before .before .before .before .before) in
-    let told = (c .before .before .before .before) .number .ensures ∙ m .rectilinear-map-of .ensures .answers in
-    rectilinear-value binary64 (now (a .dims)) (now (a .grid)) (isOn (a .linear)) (now (a .coeffs)) _ (m .rectilinear-map-of .ensures .map (sym ((c .before .before .before .before) .number .ensures) ∙ (c .before .before .before) .if1 .left)) (now (a .x)) ((c .before .before) .interp-one .ensures) (c .put-value .ensures)
+returns : tie.Need-returns
+returns c =
+    let v = c .before .before in
+    let k = v .before in
+    let a = k .before .before .before .before .before .args in
+    rectilinear-value binary64 (now (a .dims)) (now (a .grid)) (isOn (a .linear)) (now (a .coeffs)) _ (made-handed binary64 (now (a .dims)) (now (a .grid)) (isOn (a .linear))) (now (a .x)) (rw (k .shape-of .ensures) at (v .value-of-grid .ensures)) (c .put-value .ensures)
 
 pub corvezan-rectilinear-value-spec : {M : Type 1} → statement M
-corvezan-rectilinear-value-spec =
-    tie.close
-    (tie.spec
-    map-of-requires
-    number-requires
-    returns
-    interp-one-requires
-    put-value-requires
-    returns-2)
+corvezan-rectilinear-value-spec = tie.close (tie.spec shape-of-requires value-of-grid-requires put-value-requires returns)

@@ -37,7 +37,14 @@ returns-3 c =
     let w = t .before .before in
     let a = w .before .before .args in
     map-coefs (a .count) (a .dims) (now (a .grid)) (a .coeffs) (told-accepted (a .count) (a .dims) (t .enum-told .given .1) (w .check .ensures))
-    (i .before .if1 .left ∙ n .grid-len .ensures) (λ e. c .if2 .taken (e ∙ sym (i .coeff-storage-len .ensures)))
+    (i .before .if1 .left ∙ n .grid-len .ensures) (λ e. c .if2 .taken (e ∙ sym (i .points-of .ensures)))
+
+points-of-requires : tie.Need-points-of-requires
+points-of-requires c κs =
+    let t = c .before .before in
+    let w = t .before .before in
+    let s = w .before .before in
+    usable (s .args .count) (s .args .dims) (omega (arith, s .good)) (told-accepted (s .args .count) (s .args .dims) (t .enum-told .given .1) (w .check .ensures))
 
 all-rise-requires : tie.Need-all-rise-requires
 all-rise-requires c κs =
@@ -59,7 +66,7 @@ returns-4 c =
     let s = w .before .before in
     let a = s .args in
     map-falls (a .count) (a .dims) (now (a .grid)) (a .coeffs) (told-accepted (a .count) (a .dims) (t .enum-told .given .1) (w .check .ensures))
-    (i .before .if1 .left ∙ n .grid-len .ensures) (r .before .if2 .left ∙ i .coeff-storage-len .ensures) (omega (arith, s .good)) (sym (r .all-rise .ensures) ∙ not-true _ (c .if3 .taken))
+    (i .before .if1 .left ∙ n .grid-len .ensures) (r .before .if2 .left ∙ i .points-of .ensures) (omega (arith, s .good)) (sym (r .all-rise .ensures) ∙ not-true _ (c .if3 .taken))
 
 returns-5 : tie.Need-returns-5
 returns-5 c =
@@ -71,9 +78,9 @@ returns-5 c =
     let s = w .before .before in
     let a = s .args in
     map-passed (a .count) (a .dims) (now (a .grid)) (a .coeffs) (told-accepted (a .count) (a .dims) (t .enum-told .given .1) (w .check .ensures))
-    (i .before .if1 .left ∙ n .grid-len .ensures) (r .before .if2 .left ∙ i .coeff-storage-len .ensures) (omega (arith, s .good)) (sym (r .all-rise .ensures) ∙ not-false _ (c .if3 .left))
+    (i .before .if1 .left ∙ n .grid-len .ensures) (r .before .if2 .left ∙ i .points-of .ensures) (omega (arith, s .good)) (sym (r .all-rise .ensures) ∙ not-false _ (c .if3 .left))
 
 pub check-map-spec : {M : Type 1} → statement M
 check-map-spec =
     tie.close
-    (tie.spec (λ c κs. search needs) (λ c. search needs) returns (λ c. search needs) grid-len-requires returns-2 (λ c κs. search needs) returns-3 all-rise-requires returns-4 returns-5)
+    (tie.spec (λ c κs. search needs) (λ c. search needs) returns (λ c. search needs) grid-len-requires returns-2 points-of-requires returns-3 all-rise-requires returns-4 returns-5)
