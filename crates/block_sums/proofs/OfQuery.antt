@@ -9,7 +9,7 @@ use lib.Ieee.{Float, Format}
 use Rattle.interp_math.specs.Sum.{dot4, gradientPart}
 use Rattle.interp_math.specs.Table.{lanes, partLanes}
 use Rattle.interp_math.proofs.Tables.{lanes-end, part-row, part-end, own-end}
-use Rattle.evaluation.specs.Axes.{RowsOn}
+use Rattle.evaluation.specs.Granted.{RowsOn}
 use Rattle.evaluation.specs.Block.{rowAt, weightsOf}
 use Rattle.evaluation.proofs.Blocks.{weights-on}
 use Rattle.evaluation.proofs.Entries.{value-rows, part-rows}

@@ -1,7 +1,7 @@
 // The rows of one query, out of those of a block.
 ghost use Prim.Native.Nat.{_+_, _-_, _*_, _≤_};
 ghost use lib.ListN.{length};
-ghost use Rattle.evaluation.specs.Axes.{RowsOn};
+ghost use Rattle.evaluation.specs.Granted.{RowsOn};
 ghost use Rattle.evaluation.specs.Block.{rowAt};
 use evaluation::row;
 

@@ -14,7 +14,8 @@ use borrow.Author.Tests.{eq-eqb, ne-eqb, lt-ltb, le-ltb}
 use Rattle.shape.specs.Refusal.{refusalNumber}
 use Rattle.shape.specs.declared.answers.Refusal.{Refusal}
 use Rattle.shape.proofs.Accepted.{refusal-suc}
-use Rattle.evaluation.specs.Batch.{before, written, Entries, Batch}
+use Rattle.evaluation.specs.Batch.{before, written, Batch}
+use Rattle.evaluation.specs.Entries.{Entries}
 use Rattle.evaluation.specs.Block.{Block}
 
 -- ---- before the first bad one

@@ -13,7 +13,8 @@ use Rattle.shape.proofs.Cells.{length-put, from-in, put-other}
 use Rattle.interp_math.specs.Sum.{summed, gradientPart}
 use Rattle.interp_math.proofs.Four.{four}
 use Rattle.interp_math.proofs.Sums.{summed-ext}
-use Rattle.evaluation.specs.Axes.{rows, RowsOn}
+use Rattle.evaluation.specs.Axes.{rows}
+use Rattle.evaluation.specs.Granted.{RowsOn}
 use Rattle.evaluation.specs.Batch.{written}
 use Rattle.evaluation.specs.Block.{rowAt, withRow, weightsOf}
 

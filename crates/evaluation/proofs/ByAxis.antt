@@ -17,7 +17,8 @@ use Rattle.shape.specs.Shape.{size, stride}
 use Rattle.shape.specs.Usable.{Usable}
 use Rattle.shape.proofs.Below.{none-at, any-none, any-ext}
 use Rattle.interp_math.specs.Sum.{summed, gradientPart}
-use Rattle.evaluation.specs.Axes.{perAxis, zeros, query, rows, strides, firstOver, Reaches, RowsOn}
+use Rattle.evaluation.specs.Axes.{perAxis, zeros, query, rows, strides, firstOver}
+use Rattle.evaluation.specs.Granted.{Reaches, RowsOn}
 use Rattle.evaluation.specs.ByAxis.{ByAxis, refuses, firstAt, valueAt, partAt, splineOf}
 use Rattle.evaluation.specs.Batch.{written, badAt, valueStep, gradientStep}
 use Rattle.evaluation.specs.Block.{weightsOf, RowsTo, FirstsTo, Firsts, reach, Block}

@@ -14,7 +14,8 @@ use Rattle.shape.specs.Shape.{stride}
 use Rattle.shape.proofs.Lengths.{product-end}
 use Rattle.interp_math.specs.Sum.{summed, gradientPart}
 use Rattle.interp_math.proofs.Sums.{summed-ext}
-use Rattle.evaluation.specs.Axes.{perAxis, query, rows, zeros, strides, Ready, Reaches, RowsOn}
+use Rattle.evaluation.specs.Axes.{perAxis, query, rows, zeros, strides}
+use Rattle.evaluation.specs.Granted.{Ready, Reaches, RowsOn}
 
 -- entry k, and what it is where axis k is in use
 pub entry-at : {A : Type 0} (unused d : A) (count : ℕ) (entry : ℕ → A) (k : ℕ) → k < 4 → getD (perAxis unused count entry) k d ≡ cond (ltb k count) (entry k) unused

@@ -19,9 +19,9 @@ use Rattle.interp_math.specs.Sum.{dot4, summed}
 use Rattle.interp_math.specs.Table.{lanes}
 use Rattle.interp_math.proofs.Tables.{lanes-end}
 use Rattle.multibspline.specs.Numbers.{f0}
-use Rattle.evaluation.specs.Axes.{Ready, RowsOn}
+use Rattle.evaluation.specs.Granted.{Ready, RowsOn}
 use Rattle.evaluation.specs.ByAxis.{ByAxis, splineOf}
-use Rattle.evaluation.specs.Spline.{Answered}
+use Rattle.evaluation.specs.Entries.{Answered}
 use Rattle.evaluation.specs.OneQuery.{SoFar}
 use Rattle.evaluation.proofs.Entries.{within-by}
 use Rattle.evaluation.proofs.Reach.{first-none, first-next}

@@ -20,7 +20,8 @@ use Rattle.shape.specs.declared.answers.Answer.the-variants.{Accepted, Refused}
 use Rattle.shape.proofs.Accepted.{refusal-suc, refusal-append, passed-append}
 use Rattle.multibspline.specs.Numbers.{f0}
 use Rattle.evaluation.specs.Axes.{zeros, query}
-use Rattle.evaluation.specs.Spline.{Spline, gradient, Answered, GradientAnswered, oneAnswer, OneValue, OneGradient, batchAnswer, gradientBatchAnswer}
+use Rattle.evaluation.specs.Spline.{Spline, gradient, oneAnswer, OneValue, OneGradient, batchAnswer, gradientBatchAnswer}
+use Rattle.evaluation.specs.Entries.{Answered, GradientAnswered}
 use Rattle.evaluation.specs.Batch.{written, badAt, valueStep, gradientStep}
 use Rattle.evaluation.specs.Block.{Block}
 use Rattle.evaluation.proofs.Entries.{axis-at}

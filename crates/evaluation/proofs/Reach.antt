@@ -13,7 +13,8 @@ use Rattle.shape.specs.Usable.{Usable}
 use Rattle.shape.proofs.Lengths.{product-end}
 use Rattle.shape.proofs.BaseIndex.{from-axis}
 use Rattle.shape.proofs.Accepted.{points-are, axes-are}
-use Rattle.evaluation.specs.Axes.{firstOver, Reaches}
+use Rattle.evaluation.specs.Axes.{firstOver}
+use Rattle.evaluation.specs.Granted.{Reaches}
 
 -- ---- the first of the coefficients that count, axis by axis
 

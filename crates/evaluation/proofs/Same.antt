@@ -4,8 +4,9 @@ use mathlib.Core.List.{List}
 use Prim.Native.Nat.{ℕ}
 use lib.Ieee.{Float}
 use Rattle.evaluation.specs.Axes.{query}
-use Rattle.evaluation.specs.Spline.{Spline, Answered, GradientAnswered}
-use Rattle.evaluation.specs.Batch.{ValueEntries, GradientEntries}
+use Rattle.evaluation.specs.Spline.{Spline}
+use Rattle.evaluation.specs.Entries.{Answered, GradientAnswered}
+use Rattle.evaluation.specs.Entries.{ValueEntries, GradientEntries}
 
 module _ {s s′ : Spline} (e : s ≡ s′) where
   pub same-value : (x : List Float) {answer : ℕ} {v : Float} → Answered s (query (s .axes) x 1 0) answer v → Answered s′ (query (s′ .axes) x 1 0) answer v

@@ -8,7 +8,8 @@ use lib.Seq.{getD-set-same}
 use lib.Ieee.{Float, nan}
 use Rattle.shape.specs.Cells.{put}
 use Rattle.evaluation.specs.Axes.{zeros, parts, query}
-use Rattle.evaluation.specs.Spline.{Spline, Answered, GradientAnswered}
+use Rattle.evaluation.specs.Spline.{Spline}
+use Rattle.evaluation.specs.Entries.{Answered, GradientAnswered}
 use Rattle.evaluation.specs.Batch.{written, badAt, valueStep, gradientStep}
 use Rattle.evaluation.specs.Block.{Block}
 use Rattle.evaluation.proofs.Outcomes.{value-found, gradient-found, gradient-refused}

@@ -10,7 +10,8 @@ use lib.ListN.{length, getD, drop}
 use lib.Ieee.{Float}
 use Rattle.shape.specs.Checks.{mostPoints}
 use Rattle.shape.proofs.Accepted.{room, axis-small, points-are}
-use Rattle.evaluation.specs.Axes.{query, Ready}
+use Rattle.evaluation.specs.Axes.{query}
+use Rattle.evaluation.specs.Granted.{Ready}
 use Rattle.evaluation.specs.ByAxis.{ByAxis}
 use Rattle.evaluation.specs.Block.{rowAt, AxesPut, RowsTo}
 use Rattle.evaluation.specs.Stages.{Room, AxisRoom, PlacedBy}

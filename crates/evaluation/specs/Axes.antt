@@ -1,15 +1,13 @@
 -- Four entries, one an axis: the coordinates of a query, the rows of weights, the parts of a gradient. Entries for axes not in
 -- use are zero. Assumes nothing.
-use mathlib.Core.Path.{_≡_}
 use mathlib.Core.Bool.{cond}
 use mathlib.Core.List.{List, [], _∷_}
-use Prim.Native.Nat.{ℕ, _+_, _*_, _<_}
+use Prim.Native.Nat.{ℕ, _+_, _*_}
 use lib.Dec.{ltb}
-use lib.ListN.{length, getD, take}
+use lib.ListN.{getD, take}
 use lib.Ieee.{Float, nan, Format}
 use Rattle.shape.specs.Below.{sumBelow}
 use Rattle.shape.specs.Shape.{stride}
-use Rattle.shape.specs.Usable.{Usable}
 use Rattle.multibspline.specs.Numbers.{f0}
 use Rattle.interp_math.specs.Sum.{summed, gradientPart}
 
@@ -37,11 +35,6 @@ query count xs n i = perAxis f0 count (λ a. getD xs (a * n + i) nan)
 abbrev pub rows : ℕ → (ℕ → List Float) → List (List Float)
 rows count row = perAxis zeros count row
 
--- a table of four rows that holds these rows for the axes in use
-pub record RowsOn (count : ℕ) (row : ℕ → List Float) (table : List (List Float)) : Type 0 where
-  pub four : length table ≡ 4
-  pub at : (a : ℕ) → a < count → getD table a [] ≡ row a
-
 -- the parts of a gradient
 abbrev pub parts : ℕ → (ℕ → Float) → List Float
 parts count part = perAxis f0 count part
@@ -53,16 +46,6 @@ strides count lens = perAxis 0 count (stride (take count lens))
 -- the first of the coefficients that count, over the first a axes: the sum of origin times stride
 unfoldable pub firstOver : List ℕ → (ℕ → ℕ) → ℕ → ℕ
 firstOver dims origin a = sumBelow (λ b. origin b * stride dims b) a
-
--- what the functions that evaluate a query take for granted: an accepted shape, and its strides
-pub record Ready (count : ℕ) (lens ss : List ℕ) : Type 0 where
-  pub shape : Usable count lens
-  pub four : length lens ≡ 4
-  pub strides-are : ss ≡ strides count lens
-
--- the coefficients from `first` on that count lie within `coefs`: up to three strides further on each axis
-pub record Reaches (count : ℕ) (lens : List ℕ) (first coefs : ℕ) : Type 0 where
-  pub within : first + 3 * sumBelow (stride (take count lens)) count < coefs
 
 -- from the first coefficient that counts, with a row of weights and one of slopes an axis: the value, and part k of the
 -- gradient

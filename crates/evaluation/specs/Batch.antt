@@ -36,18 +36,7 @@ module _ (s : Spline) (xs : List Float) (n : ℕ) where
   unfoldable pub gradientStep : ℕ → List Float → List Float
   gradientStep i out = put (λ k. k * n + i) (s .part (query (s .axes) xs n i)) (s .axes) out
 
--- ---- what the entries and a whole batch answer and leave
-
-pub record Entries (bad : ℕ → Bool) (step : ℕ → List Float → List Float) (n : ℕ) (out : List Float) (answer : ℕ) (out′ : List Float) : Type 0 where
-  pub answers : answer ≡ cond (ltb (before bad n) n) 6 0
-  pub leaves : out′ ≡ written step (before bad n) out
-
--- of n queries on a map: values, and gradients
-abbrev pub ValueEntries : Spline → List Float → ℕ → List Float → ℕ → List Float → Type 0
-ValueEntries s xs n out answer out′ = Entries (badAt s xs n) (valueStep s xs n) n out answer out′
-
-abbrev pub GradientEntries : Spline → List Float → ℕ → List Float → ℕ → List Float → Type 0
-GradientEntries s xs n out answer out′ = Entries (badAt s xs n) (gradientStep s xs n) n out answer out′
+-- ---- what a batch answers and leaves
 
 -- `lengths` is the answer of the checks before the entries; then 6 where some entry is bad
 abbrev pub entriesAnswer : ℕ → (ℕ → Bool) → ℕ → ℕ

@@ -9,3 +9,5 @@ pub mod Block
 pub mod Stages
 pub mod OneQuery
 pub mod Records
+pub mod Granted
+pub mod Entries

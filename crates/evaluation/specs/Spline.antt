@@ -26,16 +26,6 @@ pub record Spline : Type 0 where
 abbrev pub gradient : Spline → List Float → List Float
 gradient s x = parts (s .axes) (s .part x)
 
--- ---- a query whose lengths are right: its figures, or 6
-
-pub record Answered (s : Spline) (x : List Float) (answer : ℕ) (value : Float) : Type 0 where
-  pub answers : answer ≡ cond (s .refuses x) 6 0
-  pub valued : value ≡ cond (s .refuses x) f0 (s .value x)
-
-pub record GradientAnswered (s : Spline) (x : List Float) (answer : ℕ) (parts : List Float) : Type 0 where
-  pub answers : answer ≡ cond (s .refuses x) 6 0
-  pub gradient : parts ≡ cond (s .refuses x) zeros (gradient s x)
-
 -- ---- a single query of as many coordinates as there are axes
 
 unfoldable pub oneAnswer : Spline → List Float → ℕ

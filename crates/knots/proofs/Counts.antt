@@ -10,7 +10,8 @@ use lib.Dec.{leb}
 use lib.ListN.{length, getD}
 use borrow.Author.Tests.{leb-true, leb-false}
 use lib.Ieee.{Float, nan, inf, fin, lt}
-use Rattle.knots.specs.Knots.{rises, countBelow, Between}
+use Rattle.knots.specs.Knots.{rises, countBelow}
+use Rattle.knots.specs.Window.{Between}
 use Rattle.knots.proofs.Compare.{lt-trans-float}
 use Rattle.knots.proofs.Increase.{in-order}
 

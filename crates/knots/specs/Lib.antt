@@ -3,3 +3,4 @@ pub mod Joined
 pub mod Place
 pub mod Checks
 pub mod NanKnots
+pub mod Window

@@ -5,7 +5,8 @@ ghost use Prim.Native.Nat.{_+_, _-_, _*_, _/_, _≤_};
 ghost use lib.Ieee.{lt};
 ghost use lib.ListN.{length, take};
 ghost use Rattle.shape.specs.Usable.{Usable};
-ghost use Rattle.knots.specs.Knots.{rises, countBelow, Between};
+ghost use Rattle.knots.specs.Knots.{rises, countBelow};
+ghost use Rattle.knots.specs.Window.{Between};
 ghost use Rattle.knots.specs.Joined.{total, allRise};
 use crate::joined::axis_knots;
 

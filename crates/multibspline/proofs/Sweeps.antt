@@ -12,7 +12,8 @@ use Rattle.shape.specs.Cells.{put, from, onLine, writeLine}
 use Rattle.shape.specs.Fit.{lineScratch}
 use Rattle.shape.proofs.Cells.{put-ext, from-unique, line-apart}
 use Rattle.shape.proofs.Scratch.{put-set, scratch-upper, scratch-right, scratch-next, scratch-over, scratch-ext, scratch-solved, length-scratch}
-use Rattle.multibspline.specs.Thomas.{Row, Reduced, at, withReduced, reduce, forward, back, backAt, backStep, solution, solved, putDown}
+use Rattle.multibspline.specs.Thomas.{Row, Reduced, at, reduce, forward, back, backAt, backStep, solution}
+use Rattle.multibspline.specs.Scratch.{withReduced, solved, putDown}
 
 -- ---- the copy of the samples: cells below i are copied
 

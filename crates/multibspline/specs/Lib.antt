@@ -4,3 +4,4 @@ pub mod Line
 pub mod Records
 pub mod Total
 pub mod Place
+pub mod Scratch

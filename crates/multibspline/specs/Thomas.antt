@@ -1,8 +1,8 @@
 -- The Thomas algorithm on a tridiagonal system of n rows, each operation rounded to the format f.
 -- Row i says lower · x(i-1) + diag · x(i) + upper · x(i+1) = right. Assumes nothing.
-use Prim.Native.Nat.{ℕ, zero, suc, _+_, _-_}
+use Prim.Native.Nat.{ℕ, zero, suc, _-_}
 use mathlib.Core.List.{List}
-use lib.ListN.{getD, set}
+use lib.ListN.{getD}
 use lib.Ieee as Ieee
 use lib.Ieee.{Float, Format, nan}
 
@@ -49,21 +49,6 @@ backAt f upper right last i = back f upper right last (last - i)
 abbrev pub solution : Format → Reduced → (ℕ → Row) → ℕ → ℕ → Float
 solution f first row n i = backAt f (λ k. forward f first row k .upper) (λ k. forward f first row k .right) (n - 1) i
 
--- ---- in scratch: the upper numbers from 0 on, the right sides from m on
-
--- the number at a place of scratch
+-- number i of a list
 abbrev pub at : List Float → ℕ → Float
-at scratch i = getD scratch i nan
-
--- scratch with row i reduced
-abbrev pub withReduced : ℕ → ℕ → Reduced → List Float → List Float
-withReduced m i row scratch = set (set scratch i (row .upper)) (m + i) (row .right)
-
--- x(i), from the reduced rows in scratch
-abbrev pub solved : Format → ℕ → ℕ → List Float → ℕ → Float
-solved f n m scratch i = backAt f (at scratch) (λ k. at scratch (m + k)) (n - 1) i
-
--- cell `place i` set to `g i` for each i below n, the last first
-abbrev pub putDown : (ℕ → ℕ) → (ℕ → Float) → ℕ → List Float → List Float
-putDown place g zero xs = xs
-putDown place g (suc n) xs = putDown place g n (set xs (place n) (g n))
+at xs i = getD xs i nan

@@ -10,7 +10,8 @@ ghost use Prim.Native.Nat.{ℕ, _+_, _-_, _*_, _≤_, _<_};
 ghost use lib.ListN.{length, set};
 ghost use lib.Ieee.{binary64, nan};
 ghost use Rattle.shape.specs.Cells.{put, from, onLine, line, writeLine};
-ghost use Rattle.multibspline.specs.Thomas.{Row, at, reduce, withReduced, backStep, solved, putDown};
+ghost use Rattle.multibspline.specs.Thomas.{Row, at, reduce, backStep};
+ghost use Rattle.multibspline.specs.Scratch.{withReduced, solved, putDown};
 ghost use Rattle.multibspline.specs.Records.{reducedOf};
 
 // The samples are copied.

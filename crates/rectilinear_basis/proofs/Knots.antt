@@ -13,7 +13,8 @@ use Rattle.shape.proofs.Cells.{lt-or-ge}
 use Rattle.multibspline.specs.Numbers.{f0}
 use Rattle.multibspline.specs.Thomas.{at}
 use Rattle.rectilinear_basis.specs.Knot.{knot}
-use Rattle.rectilinear_basis.specs.Basis.{leftOf, rightOf, four, basis, spanKnots, weightsBetween, basisSpanWeights}
+use Rattle.rectilinear_basis.specs.Basis.{leftOf, rightOf, four, basis, basisSpanWeights}
+use Rattle.rectilinear_basis.specs.Between.{spanKnots, weightsBetween}
 
 -- the numbers of the two knots before the first, as floats
 pub before-first : (f : Format) (p : ℕ) → p < 2 → neg (ofInt f (pos (2 - p))) ≡ ofInt f (negsuc (2 - suc p))

@@ -8,7 +8,6 @@ use lib.Dec.{ltb}
 use lib.IntN.{pos, subℕ}
 use lib.Ieee.{Float, Format, add, sub, mul, div}
 use Rattle.multibspline.specs.Numbers.{f0, f1}
-use Rattle.multibspline.specs.Thomas.{at}
 use Rattle.rectilinear_basis.specs.Knot.{knot}
 
 -- left(j) = x - u(i + 1 - j) and right(j) = u(i + j) - x on the span i, for j from 1 to 3; u are the knots
@@ -42,22 +41,3 @@ four n = n 0 ∷ n 1 ∷ n 2 ∷ n 3 ∷ []
 
 unfoldable pub basisSpanWeights : Format → List Float → ℕ → Float → List Float
 basisSpanWeights f ks span x = four (basis f (leftOf f ks span x) (rightOf f ks span x) 3)
-
--- ---- by the six knots beside the span, which are the same for every x
-
-unfoldable pub spanKnots : Format → List Float → ℕ → List Float
-spanKnots f ks span =
-    knot f ks (subℕ (span + 1) 3)
-    ∷ knot f ks (subℕ (span + 1) 2)
-    ∷ knot f ks (subℕ (span + 1) 1)
-    ∷ knot f ks (pos (span + 1))
-    ∷ knot f ks (pos (span + 2))
-    ∷ knot f ks (pos (span + 3))
-    ∷ []
-
-unfoldable pub weightsBetween : Format → List Float → Float → List Float
-weightsBetween f u x =
-    four
-    (basis f (at (f0 ∷ sub f x (at u 2) ∷ sub f x (at u 1) ∷ sub f x (at u 0) ∷ []))
-    (at (f0 ∷ sub f (at u 3) x ∷ sub f (at u 4) x ∷ sub f (at u 5) x ∷ []))
-    3)

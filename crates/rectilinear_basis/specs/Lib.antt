@@ -1,2 +1,3 @@
 pub mod Knot
 pub mod Basis
+pub mod Between

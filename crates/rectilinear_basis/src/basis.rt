@@ -8,7 +8,8 @@ ghost use lib.Ieee.{binary64};
 ghost use Rattle.multibspline.specs.Numbers.{f0};
 ghost use Rattle.multibspline.specs.Thomas.{at};
 ghost use Rattle.rectilinear_basis.specs.Knot.{knot as knotOf};
-ghost use Rattle.rectilinear_basis.specs.Basis.{basis, four, spanKnots, weightsBetween, basisSpanWeights};
+ghost use Rattle.rectilinear_basis.specs.Basis.{basis, four, basisSpanWeights};
+ghost use Rattle.rectilinear_basis.specs.Between.{spanKnots, weightsBetween};
 
 // The knot at p - 2. Before the first knot and past the last one the end spacing goes on.
 fn knot(grid: &[f64], p: usize) -> f64

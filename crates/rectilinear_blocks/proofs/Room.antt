@@ -13,7 +13,7 @@ use Rattle.knots.specs.Knots.{rises}
 use Rattle.knots.specs.Joined.{knotsOf, total}
 use Rattle.knots.proofs.Totals.{part-length, part-long, axis-rises}
 use Rattle.knots.proofs.Places.{get-loc-within}
-use Rattle.evaluation.specs.Axes.{Ready}
+use Rattle.evaluation.specs.Granted.{Ready}
 use Rattle.evaluation.proofs.ByAxis.{Roomy}
 use Rattle.evaluation.proofs.Stages.{axis-cells}
 use Rattle.rectilinear_blocks.specs.Map.{RectilinearMap}

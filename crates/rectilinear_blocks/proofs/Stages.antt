@@ -9,7 +9,8 @@ use native.Mathlib.Omega.{arith}
 use lib.ListN.{length, getD, take, drop}
 use lib.Ieee.{Float, nan, Format}
 use Rattle.shape.specs.Shape.{stride}
-use Rattle.evaluation.specs.Axes.{query, Ready}
+use Rattle.evaluation.specs.Axes.{query}
+use Rattle.evaluation.specs.Granted.{Ready}
 use Rattle.evaluation.specs.Block.{rowAt, RowsPut, AxesPut, RowsTo}
 use Rattle.evaluation.proofs.Entries.{stride-at}
 use Rattle.evaluation.proofs.ByAxis.{Moved}

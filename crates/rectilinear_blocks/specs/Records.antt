@@ -3,7 +3,7 @@ use mathlib.Core.List.{List, [], _∷_}
 use lib.Ieee.{Float}
 use Rattle.rectilinear_weights.specs.declared.ghosts.Ghost.{Ghost}
 use Rattle.rectilinear_weights.specs.Records.{ghostNumbers}
-use Rattle.evaluation.specs.Axes.{Ready}
+use Rattle.evaluation.specs.Granted.{Ready}
 use Rattle.rectilinear_blocks.specs.Map.{RectilinearMap}
 use Rattle.rectilinear_blocks.specs.Sound.{Gridded}
 use Rattle.rectilinear_blocks.specs.declared.grid.Grid.{Grid}

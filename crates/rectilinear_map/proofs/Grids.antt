@@ -5,7 +5,7 @@ use Prim.Native.Nat.{ℕ}
 use lib.ListN.{take}
 use lib.Ieee.{Float, Format}
 use Rattle.shape.specs.Shape.{size}
-use Rattle.evaluation.specs.Axes.{Ready}
+use Rattle.evaluation.specs.Granted.{Ready}
 use Rattle.rectilinear_blocks.specs.Map.{RectilinearMap}
 use Rattle.rectilinear_blocks.specs.Eval.{rectilinear}
 use Rattle.rectilinear_blocks.specs.Sound.{Sound}

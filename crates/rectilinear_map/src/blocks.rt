@@ -5,7 +5,7 @@ ghost use lib.ListN.{length, take};
 ghost use lib.Ieee.{binary64};
 ghost use Rattle.shape.specs.Shape.{size};
 ghost use Rattle.shape.specs.Refusal.{answerNumber};
-ghost use Rattle.evaluation.specs.Batch.{ValueEntries, GradientEntries};
+ghost use Rattle.evaluation.specs.Entries.{ValueEntries, GradientEntries};
 ghost use Rattle.rectilinear_blocks.specs.Eval.{rectilinear};
 ghost use Rattle.rectilinear_blocks.specs.Records.{mapOf, Accepted};
 use evaluation::Span;

@@ -1,7 +1,7 @@
 // An accepted rectilinear map with its strides, as the blocks of queries take it.
 ghost use mathlib.Core.Path.{_≡_};
 ghost use Rattle.shape.specs.Usable.{Usable};
-ghost use Rattle.evaluation.specs.Axes.{Ready};
+ghost use Rattle.evaluation.specs.Granted.{Ready};
 ghost use Rattle.rectilinear_blocks.specs.Records as blocks;
 ghost use Rattle.rectilinear_map.specs.Records.{mapOf};
 use crate::record::MultiBsplineRectilinear;

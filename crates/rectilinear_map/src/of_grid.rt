@@ -12,7 +12,8 @@ ghost use Rattle.rectilinear_weights.specs.Ghosts.{lowGhostCoeffs, highGhostCoe
 ghost use Rattle.evaluation.specs.Axes.{query};
 ghost use Rattle.evaluation.specs.Block.{RowsPut};
 ghost use Rattle.evaluation.specs.Records.{valuedNumber, valuedValue};
-ghost use Rattle.evaluation.specs.Spline.{Answered, OneValue};
+ghost use Rattle.evaluation.specs.Spline.{OneValue};
+ghost use Rattle.evaluation.specs.Entries.{Answered};
 ghost use Rattle.rectilinear_axis.specs.Axis.{placeWeights};
 ghost use Rattle.rectilinear_blocks.specs.Eval.{knotsOn, weightsOn, rectilinear};
 ghost use Rattle.rectilinear_blocks.specs.Records.{Accepted};

@@ -7,7 +7,7 @@ ghost use Rattle.shape.specs.Shape.{size};
 ghost use Rattle.shape.specs.Refusal.{answerNumber};
 ghost use Rattle.evaluation.specs.Axes.{query};
 ghost use Rattle.evaluation.specs.Records.{valuedNumber, valuedValue};
-ghost use Rattle.evaluation.specs.Spline.{Answered, GradientAnswered};
+ghost use Rattle.evaluation.specs.Entries.{Answered, GradientAnswered};
 ghost use Rattle.rectilinear_blocks.specs.Eval.{rectilinear};
 ghost use Rattle.rectilinear_blocks.specs.Records.{mapOf, Accepted};
 use block_sums::put_values;

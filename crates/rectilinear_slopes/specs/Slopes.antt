@@ -31,9 +31,6 @@ sampled f ks span =
 unfoldable pub column : List (List Float) → ℕ → List Float
 column rows j = at (getD rows 0 []) j ∷ at (getD rows 1 []) j ∷ at (getD rows 2 []) j ∷ at (getD rows 3 []) j ∷ []
 
-abbrev pub columns : List (List Float) → List (List Float)
-columns rows = column rows 0 ∷ column rows 1 ∷ column rows 2 ∷ column rows 3 ∷ []
-
 -- ---- the derivative, at x, of the cubic through four points: Lagrange's formula
 
 module _ (f : Format) (xs : List Float) (x : Float) where
@@ -51,11 +48,6 @@ module _ (f : Format) (xs : List Float) (x : Float) where
   abbrev pub derivative : List Float → ℕ → Float
   derivative ys zero = f0
   derivative ys (suc j) = add f (derivative ys j) (mul f (at ys j) (basisDerivative j 4))
-
--- the same sum, of derivatives in a list, which do not depend on the values
-abbrev pub derivativeBy : Format → List Float → List Float → ℕ → Float
-derivativeBy f ds ys zero = f0
-derivativeBy f ds ys (suc j) = add f (derivativeBy f ds ys j) (mul f (at ys j) (at ds j))
 
 unfoldable pub lagrangeDerivative : Format → List Float → List Float → Float → Float
 lagrangeDerivative f xs ys x = derivative f xs x ys 4

@@ -5,7 +5,8 @@ ghost use Prim.Native.Nat.{_+_, _<_, _≤_};
 ghost use lib.ListN.{length};
 ghost use lib.Ieee.{binary64};
 ghost use Rattle.rectilinear_basis.specs.Basis.{four};
-ghost use Rattle.rectilinear_slopes.specs.Slopes.{spanSamples, sampled as sampledOf, columns, term as termOf, basisDerivative, derivativeBy, basisSpanWeightDerivatives, thirdDividedDifference, spanWeightThirdDerivatives};
+ghost use Rattle.rectilinear_slopes.specs.Slopes.{spanSamples, sampled as sampledOf, term as termOf, basisDerivative, basisSpanWeightDerivatives, thirdDividedDifference, spanWeightThirdDerivatives};
+ghost use Rattle.rectilinear_slopes.specs.Columns.{columns, derivativeBy};
 use rectilinear_basis::span_knots;
 use rectilinear_basis::weights_between;
 

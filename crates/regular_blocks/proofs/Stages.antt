@@ -11,7 +11,8 @@ use lib.Ieee.{Float, nan, Format}
 use Rattle.shape.specs.Shape.{stride}
 use Rattle.regular_weights.specs.Place.{getLoc}
 use Rattle.regular_weights.specs.declared.place.Loc.{Loc}
-use Rattle.evaluation.specs.Axes.{query, Ready}
+use Rattle.evaluation.specs.Axes.{query}
+use Rattle.evaluation.specs.Granted.{Ready}
 use Rattle.evaluation.specs.Block.{rowAt, AxesPut, RowsTo}
 use Rattle.evaluation.proofs.Entries.{stride-at}
 use Rattle.evaluation.proofs.ByAxis.{Moved}

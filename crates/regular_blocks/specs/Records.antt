@@ -1,5 +1,5 @@
 -- The code's records, as the definitions see them: the only definitions here that are tied to a width. Assumes nothing.
-use Rattle.evaluation.specs.Axes.{Ready}
+use Rattle.evaluation.specs.Granted.{Ready}
 use Rattle.regular_blocks.specs.Map.{RegularMap}
 use Rattle.regular_blocks.specs.declared.grid.Grid.{Grid}
 

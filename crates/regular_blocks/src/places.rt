@@ -5,7 +5,7 @@ ghost use Prim.Native.Nat.{ℕ, _+_, _*_, _≤_, _<_};
 ghost use lib.ListN.{length, getD};
 ghost use lib.Ieee.{binary64, nan};
 ghost use Rattle.regular_axis.specs.Axis.{Axis, Places};
-ghost use Rattle.evaluation.specs.Axes.{Ready};
+ghost use Rattle.evaluation.specs.Granted.{Ready};
 ghost use Rattle.evaluation.specs.Stages.{Room, AxisRoom};
 ghost use Rattle.regular_blocks.specs.Block.{PlacedTo};
 ghost use Rattle.regular_blocks.specs.Map.{mapFrom};

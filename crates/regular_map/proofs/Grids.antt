@@ -6,8 +6,9 @@ use lib.ListN.{take}
 use lib.Ieee.{Float, Format}
 use Rattle.shape.specs.Shape.{size}
 use Rattle.evaluation.specs.Axes.{query}
-use Rattle.evaluation.specs.Spline.{Answered, GradientAnswered}
-use Rattle.evaluation.specs.Batch.{badAt, valueStep, gradientStep, Entries}
+use Rattle.evaluation.specs.Entries.{Answered, GradientAnswered}
+use Rattle.evaluation.specs.Batch.{badAt, valueStep, gradientStep}
+use Rattle.evaluation.specs.Entries.{Entries}
 use Rattle.regular_blocks.specs.Map.{RegularMap}
 use Rattle.regular_blocks.specs.Checks.{regular}
 use Rattle.regular_blocks.specs.Records.{mapOf}

@@ -22,7 +22,7 @@ use Rattle.regular_weights.specs.declared.place.Loc.{Loc}
 use Rattle.regular_weights.specs.declared.place.Loc.the-variants.{At, Unrepresentable}
 use Rattle.regular_weights.proofs.Cells.{origin-room}
 use Rattle.evaluation.specs.Axes.{query}
-use Rattle.evaluation.specs.Spline.{Answered}
+use Rattle.evaluation.specs.Entries.{Answered}
 use Rattle.evaluation.specs.OneQuery.{SoFar}
 use Rattle.evaluation.proofs.Entries.{query-at, stride-at, last-stride}
 use Rattle.evaluation.proofs.OneQuery.{one-start, one-next, one-last, one-refused, one-small, one-reaches, one-value}

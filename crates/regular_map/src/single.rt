@@ -8,7 +8,7 @@ ghost use Rattle.shape.specs.Shape.{size};
 ghost use Rattle.shape.specs.Refusal.{answerNumber};
 ghost use Rattle.evaluation.specs.Axes.{query};
 ghost use Rattle.evaluation.specs.Records.{valuedNumber, valuedValue};
-ghost use Rattle.evaluation.specs.Spline.{Answered, GradientAnswered};
+ghost use Rattle.evaluation.specs.Entries.{Answered, GradientAnswered};
 ghost use Rattle.regular_blocks.specs.Checks.{regular};
 ghost use Rattle.regular_blocks.specs.Records.{mapOf, Accepted};
 ghost use Rattle.regular_map.specs.OneQuery.{LookedAt};

@@ -2,7 +2,7 @@ use borrow.Author.Needs.{needs}
 use denote.Ref.{now}
 use Prim.Native.Nat.{_-_}
 use lib.Ieee.{binary64}
-use Rattle.multibspline.specs.Thomas.{solved}
+use Rattle.multibspline.specs.Scratch.{solved}
 use Rattle.multibspline.proofs.Sweeps.{back-last, line-down}
 use Rattle.multibspline.proofs.back_substitute.Statement.{statement}
 use Rattle.multibspline.proofs.back_substitute.Tie as tie

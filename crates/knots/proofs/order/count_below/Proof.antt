@@ -1,7 +1,7 @@
 use Prim.Native.Nat.{_+_}
 use native.Mathlib.Omega.{arith}
 use borrow.Author.Needs.{needs}
-use Rattle.knots.specs.Knots.{Between}
+use Rattle.knots.specs.Window.{Between}
 use Rattle.knots.proofs.Counts.{between-start}
 use Rattle.knots.proofs.order.count_below.Statement.{statement}
 use Rattle.knots.proofs.order.count_below.Tie as tie

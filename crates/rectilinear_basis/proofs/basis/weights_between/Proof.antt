@@ -1,5 +1,5 @@
 use borrow.Author.Needs.{needs}
-use Rattle.rectilinear_basis.specs.Basis.{weightsBetween}
+use Rattle.rectilinear_basis.specs.Between.{weightsBetween}
 use Rattle.rectilinear_basis.proofs.basis.weights_between.Statement.{statement}
 use Rattle.rectilinear_basis.proofs.basis.weights_between.Tie as tie
 
