@@ -80,7 +80,7 @@ module _ (linear : Bool) (count : ℕ) (lens : List ℕ) (row samples coefs scra
     number : fromValuesAnswer count lens steps (length samples) (length coefs) (length scratch) ≡ regularNumber (take count lens) row
     number =
         values-passed count lens steps (length samples) (length coefs) (length scratch) four {x = Accepted} refl fits
-        ∙ map-steps count lens steps (length coefs) ok (l .coefs-are ∙ sym (storage-is count lens ok)) (ap anyStepBad (sym steps-are))
+        ∙ map-steps count lens steps (length coefs) ok (l .coefs-are) (ap anyStepBad (sym steps-are))
         ∙ rw axes
 
     same-map : Regular.made count lens starts steps linear ≡ Regular.made (length (take count lens)) (take count lens) (take (length (take count lens)) row) (drop (length (take count lens)) row) linear

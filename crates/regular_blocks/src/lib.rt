@@ -8,5 +8,3 @@ mod rows;
 pub use block::gradients_block;
 pub use block::values_block;
 pub use grid::Grid;
-pub use places::place_axes;
-pub use rows::weigh_axes;
