@@ -4,11 +4,11 @@ use mathlib.Core.Path.{_≡_, refl, sym, ap, _∙_}
 use mathlib.Core.List.{List, []}
 use Prim.Native.Nat.{ℕ, suc, _+_, _*_, _<_}
 use native.Mathlib.Omega.{arith}
-use lib.ListN.{getD}
+use lib.ListN.{length, getD}
 use lib.Ieee.{Float, Format}
 use Rattle.interp_math.specs.Sum.{dot4, gradientPart}
-use Rattle.interp_math.specs.Table.{lanes, partLanes}
-use Rattle.interp_math.proofs.Tables.{lanes-end, part-row, part-end, own-end}
+use Rattle.interp_math.specs.Table.{lanes, turned, partLanes}
+use Rattle.interp_math.proofs.Tables.{lanes-end, lanes-turned, part-row, part-end, own-end}
 use Rattle.evaluation.specs.Granted.{RowsOn}
 use Rattle.evaluation.specs.Block.{rowAt, weightsOf}
 use Rattle.evaluation.proofs.Blocks.{weights-on}
@@ -25,6 +25,11 @@ module _ (f : Format) (coefs : List Float) (strides : List ℕ) (rows : List Flo
       rw e (lanes-end f coefs strides w j first last)
       ∙ value-rows f coefs strides (suc j) first few (λ a. rowAt rows (cap * a + k)) ws
       ∙ sym (value-rows f coefs strides (suc j) first few (λ a. rowAt rows (cap * a + k)) own-weights)
+
+  -- the same by the table of weights turned round
+  pub value-turned : {table : List (List Float)} {sums : List Float} → table ≡ turned w → sums ≡ lanes f coefs strides (turned table) j first → dot4 f (getD w j []) sums ≡ valueOf f coefs strides (suc j) rows cap first k
+  unfolding rowAt
+  value-turned et e = value-end (e ∙ lanes-turned f coefs strides w j first (omega arith) et (λ l h. ap length (ws .at l (omega arith))))
 
   -- ---- the parts of the gradient
 

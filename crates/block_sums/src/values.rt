@@ -12,6 +12,7 @@ use interp_math::neighbours;
 use interp_math::sums_1;
 use interp_math::sums_2;
 use interp_math::sums_3;
+use interp_math::turn;
 
 // The value of query k. Each number of axes has its own line, so that the compiler knows how many there are and keeps the rows
 // in registers.
@@ -33,14 +34,17 @@ fn value(
     }
     if count == 2 {
         let w = rows_of(rows, 2, cap, k);
-        return dot4(w[1], sums_1(coeffs, strides, &w, first));
+        let t = turn(&w);
+        return dot4(w[1], sums_1(coeffs, strides, &t, first));
     }
     if count == 3 {
         let w = rows_of(rows, 3, cap, k);
-        return dot4(w[2], sums_2(coeffs, strides, &w, first));
+        let t = turn(&w);
+        return dot4(w[2], sums_2(coeffs, strides, &t, first));
     }
     let w = rows_of(rows, 4, cap, k);
-    dot4(w[3], sums_3(coeffs, strides, &w, first))
+    let t = turn(&w);
+    dot4(w[3], sums_3(coeffs, strides, &t, first))
 }
 
 // The values of m queries of a block, from entry `from` on.

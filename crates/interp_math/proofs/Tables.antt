@@ -9,8 +9,9 @@ use lib.ListN.{length, getD, set, length-set}
 use lib.Seq.{getD-set-same, getD-set-other, getD-take}
 use lib.Ieee.{Float, nan, Format}
 use Rattle.interp_math.specs.Sum.{dot4, summed, gradientPart}
-use Rattle.interp_math.specs.Table.{lanes, rowsOf, column, across, sloped, partLanes}
+use Rattle.interp_math.specs.Table.{lanes, rowsOf, column, turned, across, sloped, partLanes}
 use Rattle.interp_math.proofs.Sums.{summed-ext}
+use Rattle.interp_math.proofs.Four.{four}
 
 -- the neighbours along an axis are at most three strides further
 pub near : (stride : ℕ) {p : ℕ} → p < 4 → p * stride ≤ 3 * stride
@@ -52,6 +53,15 @@ row-of row (suc (suc (suc (suc k)))) h = absurd (omega (arith, h))
 pub rows-all : {row : ℕ → List Float} {table : List (List Float)} → table ≡ rowsOf row → RowsTo row table 4
 rows-all {row} e = record { most = omega arith; four = ap length e; at = λ k h. rw e (row-of row k h) }
 
+-- ---- a table turned round twice: its rows of four are as they were
+
+turn-row : (table : List (List Float)) (l : ℕ) → l < 4 → length (getD table l []) ≡ 4 → getD (turned (turned table)) l [] ≡ getD table l []
+turn-row table zero h e = sym (four nan (getD table 0 []) e)
+turn-row table (suc zero) h e = sym (four nan (getD table 1 []) e)
+turn-row table (suc (suc zero)) h e = sym (four nan (getD table 2 []) e)
+turn-row table (suc (suc (suc zero))) h e = sym (four nan (getD table 3 []) e)
+turn-row table (suc (suc (suc (suc l)))) h e = absurd (omega (arith, h))
+
 -- ---- lanes
 
 -- over no axis they look at no stride and no weight
@@ -71,6 +81,11 @@ module _ (f : Format) (coefs : List Float) (strides : List ℕ) where
   lanes-ext ws ws′ j at same =
       let one : (i : ℕ) → summed f coefs strides ws j i ≡ summed f coefs strides ws′ j i = λ i. summed-ext f coefs strides strides ws ws′ j i (λ l h. refl) same in
       rw (one at, one (at + 1), one (at + 2), one (at + 3))
+
+  -- those by a table that was turned round are those by the table
+  pub lanes-turned : (weights : List (List Float)) {table : List (List Float)} (j at : ℕ) → j ≤ 4 → table ≡ turned weights → ((l : ℕ) → l < j → length (getD weights l []) ≡ 4)
+      → lanes f coefs strides (turned table) j at ≡ lanes f coefs strides weights j at
+  lanes-turned weights j at few e each = rw e (lanes-ext (turned (turned weights)) weights j at (λ l h. turn-row weights l (omega arith) (each l h)))
 
   module _ (weights : List (List Float)) (j at : ℕ) where
     lane-at : (q : ℕ) → q < 4 → getD (lanes f coefs strides weights j at) q nan ≡ summed f coefs strides weights j (at + q)

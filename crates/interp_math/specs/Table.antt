@@ -24,6 +24,10 @@ rowsOf row = row 0 ∷ row 1 ∷ row 2 ∷ row 3 ∷ []
 abbrev pub column : List (List Float) → ℕ → List Float
 column table q = getD (getD table 0 []) q nan ∷ getD (getD table 1 []) q nan ∷ getD (getD table 2 []) q nan ∷ getD (getD table 3 []) q nan ∷ []
 
+-- a table turned round: its columns as rows
+abbrev pub turned : List (List Float) → List (List Float)
+turned table = column table 0 ∷ column table 1 ∷ column table 2 ∷ column table 3 ∷ []
+
 -- the four-term sum of each column
 unfoldable pub across : Format → List Float → List (List Float) → List Float
 across f w table = dot4 f w (column table 0) ∷ dot4 f w (column table 1) ∷ dot4 f w (column table 2) ∷ dot4 f w (column table 3) ∷ []

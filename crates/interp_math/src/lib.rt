@@ -14,6 +14,7 @@ pub use table::neighbours;
 pub use table::sums_1;
 pub use table::sums_2;
 pub use table::sums_3;
+pub use table::turn;
 
 pub fn mul_add(a: f64, b: f64, c: f64) -> f64
     ensures { λ r. ⌜ r ≡ mulAdd binary64 a b c ⌝ }

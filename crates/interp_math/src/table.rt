@@ -8,7 +8,7 @@ ghost use Prim.Native.Nat.{_+_, _*_, _<_};
 ghost use lib.ListN.{length, getD};
 ghost use lib.Ieee.{binary64};
 ghost use Rattle.interp_math.specs.Sum.{dot4};
-ghost use Rattle.interp_math.specs.Table.{lanes, rowsOf, column, across as acrossOf};
+ghost use Rattle.interp_math.specs.Table.{lanes, rowsOf, column, turned, across as acrossOf};
 
 // Four coefficients side by side.
 pub fn neighbours(coeffs: &[f64], at: usize) -> [f64; 4]
@@ -52,19 +52,41 @@ pub fn across(w: &[f64; 4], table: &[[f64; 4]; 4]) -> [f64; 4]
     ]
 }
 
+// Entry q of each of four rows.
+fn pick(table: &[[f64; 4]; 4], q: usize) -> [f64; 4]
+    requires { ⌜ q < 4 ⌝ }
+    ensures { λ r. ⌜ r ≡ column (now (table .entry)) q ⌝ }
+{
+    [table[0][q], table[1][q], table[2][q], table[3][q]]
+}
+
+// A table turned round. The sums of a value take the weights so, by neighbour and then by axis: where the four weights of an axis
+// stand side by side, the compiler loads two at once and mixes the lanes of two rows to fit.
+pub fn turn(table: &[[f64; 4]; 4]) -> [[f64; 4]; 4]
+    ensures { λ r. ⌜ r ≡ turned (now (table .entry)) ⌝ }
+{
+    [
+        pick(table, 0),
+        pick(table, 1),
+        pick(table, 2),
+        pick(table, 3),
+    ]
+}
+
 // Sums over axis 0, side by side.
 pub fn sums_1(coeffs: &[f64], strides: &[usize; 4], weights: &[[f64; 4]; 4], at: usize) -> [f64; 4]
     requires { ⌜ at + 3 * getD (now strides) 0 0 + 3 < length (now coeffs) ⌝ }
-    ensures { λ r. ⌜ r ≡ lanes binary64 (now (coeffs .entry)) (now (strides .entry)) (now (weights .entry)) 1 at ⌝ }
+    ensures { λ r. ⌜ r ≡ lanes binary64 (now (coeffs .entry)) (now (strides .entry)) (turned (now (weights .entry))) 1 at ⌝ }
 {
     let table = patch(coeffs, strides[0], at);
-    across(&weights[0], &table)
+    let w = pick(weights, 0);
+    across(&w, &table)
 }
 
 // Sums over the axes 0 and 1, side by side.
 pub fn sums_2(coeffs: &[f64], strides: &[usize; 4], weights: &[[f64; 4]; 4], at: usize) -> [f64; 4]
     requires { ⌜ at + 3 * (getD (now strides) 0 0 + getD (now strides) 1 0) + 3 < length (now coeffs) ⌝ }
-    ensures { λ r. ⌜ r ≡ lanes binary64 (now (coeffs .entry)) (now (strides .entry)) (now (weights .entry)) 2 at ⌝ }
+    ensures { λ r. ⌜ r ≡ lanes binary64 (now (coeffs .entry)) (now (strides .entry)) (turned (now (weights .entry))) 2 at ⌝ }
 {
     let mut table = [[0.0f64; 4]; 4];
     let mut p: usize = 0;
@@ -72,13 +94,14 @@ pub fn sums_2(coeffs: &[f64], strides: &[usize; 4], weights: &[[f64; 4]; 4], at:
         table[p] = sums_1(coeffs, strides, weights, at + p * strides[1]);
         p += 1;
     }
-    across(&weights[1], &table)
+    let w = pick(weights, 1);
+    across(&w, &table)
 }
 
 // Sums over the axes 0 to 2, side by side.
 pub fn sums_3(coeffs: &[f64], strides: &[usize; 4], weights: &[[f64; 4]; 4], at: usize) -> [f64; 4]
     requires { ⌜ at + 3 * (getD (now strides) 0 0 + getD (now strides) 1 0 + getD (now strides) 2 0) + 3 < length (now coeffs) ⌝ }
-    ensures { λ r. ⌜ r ≡ lanes binary64 (now (coeffs .entry)) (now (strides .entry)) (now (weights .entry)) 3 at ⌝ }
+    ensures { λ r. ⌜ r ≡ lanes binary64 (now (coeffs .entry)) (now (strides .entry)) (turned (now (weights .entry))) 3 at ⌝ }
 {
     let mut table = [[0.0f64; 4]; 4];
     let mut p: usize = 0;
@@ -86,5 +109,6 @@ pub fn sums_3(coeffs: &[f64], strides: &[usize; 4], weights: &[[f64; 4]; 4], at:
         table[p] = sums_2(coeffs, strides, weights, at + p * strides[2]);
         p += 1;
     }
-    across(&weights[2], &table)
+    let w = pick(weights, 2);
+    across(&w, &table)
 }

@@ -3,7 +3,7 @@
 use mathlib.Core.Path.{_≡_, refl, sym, ap, subst, _∙_}
 use mathlib.Core.Bool.{Bool, true, false, not}
 use mathlib.Core.List.{List, [], _∷_, _++_}
-use Prim.Native.Nat.{ℕ, _+_, _*_, _-_, _≤_, _<_}
+use Prim.Native.Nat.{ℕ, zero, suc, _+_, _*_, _-_, _≤_, _<_}
 use native.Mathlib.Numerals.{add-one}
 use native.Mathlib.Omega.{arith}
 use lib.Arith.{lt-of-le-ne}
@@ -13,7 +13,8 @@ use lib.Ieee.{Float, nan, Format}
 use Rattle.shape.specs.Checks.{mostPoints}
 use Rattle.shape.specs.Shape.{size}
 use Rattle.interp_math.specs.Sum.{dot4}
-use Rattle.interp_math.specs.Table.{lanes}
+use Rattle.interp_math.specs.Table.{lanes, turned}
+use Rattle.interp_math.proofs.Tables.{lanes-turned}
 use Rattle.multibspline.specs.Numbers.{f0}
 use Rattle.multibspline.specs.declared.saturation.Saturation.{Saturation}
 use Rattle.regular_weights.specs.Place.{getLoc, pastOrigin}
@@ -51,6 +52,33 @@ module _ (f : Format) {n : ℕ} (start step x : Float) {loc : Loc} (same : loc �
         past = λ e. absurd (let z : _≡_ {A = ℕ} 0 1 = cc in let q : ⊥ = omega arith in q);
         none = λ e. sym same ∙ told;
       }
+
+-- ---- the sums over the axes before the last, by the table of their weights turned round
+
+module _ (f : Format) (coefs : List Float) (strides : List ℕ) (a b c d : List Float) {table : List (List Float)} (at : ℕ) (e : table ≡ turned (a ∷ b ∷ c ∷ d ∷ [])) where
+  pub turned-1 : length a ≡ 4 → lanes f coefs strides (turned table) 1 at ≡ lanes f coefs strides (a ∷ b ∷ c ∷ d ∷ []) 1 at
+  turned-1 la = lanes-turned f coefs strides (a ∷ b ∷ c ∷ d ∷ []) 1 at (omega arith) e each
+    where
+      each : (l : ℕ) → l < 1 → length (getD (a ∷ b ∷ c ∷ d ∷ []) l []) ≡ 4
+      each zero h = la
+      each (suc l) h = absurd (omega (arith, h))
+
+  pub turned-2 : length a ≡ 4 → length b ≡ 4 → lanes f coefs strides (turned table) 2 at ≡ lanes f coefs strides (a ∷ b ∷ c ∷ d ∷ []) 2 at
+  turned-2 la lb = lanes-turned f coefs strides (a ∷ b ∷ c ∷ d ∷ []) 2 at (omega arith) e each
+    where
+      each : (l : ℕ) → l < 2 → length (getD (a ∷ b ∷ c ∷ d ∷ []) l []) ≡ 4
+      each zero h = la
+      each (suc zero) h = lb
+      each (suc (suc l)) h = absurd (omega (arith, h))
+
+  pub turned-3 : length a ≡ 4 → length b ≡ 4 → length c ≡ 4 → lanes f coefs strides (turned table) 3 at ≡ lanes f coefs strides (a ∷ b ∷ c ∷ d ∷ []) 3 at
+  turned-3 la lb lc = lanes-turned f coefs strides (a ∷ b ∷ c ∷ d ∷ []) 3 at (omega arith) e each
+    where
+      each : (l : ℕ) → l < 3 → length (getD (a ∷ b ∷ c ∷ d ∷ []) l []) ≡ 4
+      each zero h = la
+      each (suc zero) h = lb
+      each (suc (suc zero)) h = lc
+      each (suc (suc (suc l))) h = absurd (omega (arith, h))
 
 -- ---- axis after axis
 

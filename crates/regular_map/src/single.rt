@@ -23,6 +23,7 @@ use interp_math::neighbours;
 use interp_math::sums_1;
 use interp_math::sums_2;
 use interp_math::sums_3;
+use interp_math::turn;
 use regular_blocks::Grid;
 use regular_blocks::gradients_block;
 use shape::Answer;
@@ -52,7 +53,8 @@ fn from_axis_3(
     let strides = grid.strides;
     let w3 = weights_of(seat.t, sat, grid.linear);
     let rows = [w0, w1, w2, w3];
-    Valued::Value(dot4(w3, sums_3(coeffs, &strides, &rows, first + seat.origin)))
+    let turned = turn(&rows);
+    Valued::Value(dot4(w3, sums_3(coeffs, &strides, &turned, first + seat.origin)))
 }
 
 // From axis 2 on.
@@ -78,8 +80,9 @@ fn from_axis_2(
     let strides = grid.strides;
     let w2 = weights_of(seat.t, sat, grid.linear);
     if grid.count == 3 {
-        let rows = [w0, w1, w2, [0.0f64; 4]];
-        return Valued::Value(dot4(w2, sums_2(coeffs, &strides, &rows, first + seat.origin)));
+        let rows = [w0, w1, w2, w2];
+        let turned = turn(&rows);
+        return Valued::Value(dot4(w2, sums_2(coeffs, &strides, &turned, first + seat.origin)));
     }
     from_axis_3(
         grid,
@@ -92,7 +95,8 @@ fn from_axis_2(
     )
 }
 
-// From axis 1 on: `first` is the first coefficient by the axes before it, which have the weights w0 and so on.
+// From axis 1 on: `first` is the first coefficient by the axes before it, which have the weights w0 and so on. A row of an axis that
+// there is not repeats the last one; it is not looked at.
 fn from_axis_1(grid: Grid, coeffs: &[f64], x: &[f64], w0: [f64; 4], first: usize) -> Valued
     requires { ⌜ LookedAt binary64 grid (now coeffs) (now x) 1 first (w0 ∷ []) ⌝ }
     ensures { λ r. ⌜ Answered (regular binary64 (mapOf grid) (now (coeffs .entry))) (query (grid .count) (now (x .entry)) 1 0) (valuedNumber r) (valuedValue r) ⌝ }
@@ -108,8 +112,9 @@ fn from_axis_1(grid: Grid, coeffs: &[f64], x: &[f64], w0: [f64; 4], first: usize
     let strides = grid.strides;
     let w1 = weights_of(seat.t, sat, grid.linear);
     if grid.count == 2 {
-        let rows = [w0, w1, [0.0f64; 4], [0.0f64; 4]];
-        return Valued::Value(dot4(w1, sums_1(coeffs, &strides, &rows, first + seat.origin)));
+        let rows = [w0, w1, w1, w1];
+        let turned = turn(&rows);
+        return Valued::Value(dot4(w1, sums_1(coeffs, &strides, &turned, first + seat.origin)));
     }
     from_axis_2(grid, coeffs, x, w0, w1, first + seat.origin * strides[1])
 }
