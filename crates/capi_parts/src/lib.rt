@@ -1,5 +1,7 @@
 // What C hands over and is handed: shapes and maps from slices, answers as numbers, and figures that are written only where a
 // call is accepted. `capi` exports the functions over these.
+#![tactic(auto)]
+
 mod grids;
 mod inputs;
 mod outputs;

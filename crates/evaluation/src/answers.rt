@@ -6,14 +6,14 @@ ghost use Rattle.evaluation.specs.Axes.{zeros};
 use shape::{Answer, Refusal};
 
 // The value of a query, or why it has none.
-#[derive(Drop)]
+#[derive(Clone, Copy)]
 pub enum Valued {
     Value(f64),
     Refused(Refusal),
 }
 
 // The gradient of a query, zeros for axes not in use; where the query is refused, nothing but zeros.
-#[derive(Drop)]
+#[derive(Clone, Copy)]
 pub struct Gradient {
     pub answer: Answer,
     pub parts: [f64; 4],

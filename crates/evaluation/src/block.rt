@@ -3,7 +3,7 @@ ghost use Rattle.std.specs.Prelude.{◌≡◌, ℕ, ◌+◌, ◌*◌, ◌≤◌,
 ghost use Rattle.evaluation.specs.Block.{row_at, with_row};
 
 // Queries of a batch that are evaluated together: m of them, from query `from` of n on, in buffers that hold up to `cap`.
-#[derive(Drop)]
+#[derive(Clone, Copy)]
 pub struct Span {
     pub n: usize,
     pub from: usize,

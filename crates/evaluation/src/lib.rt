@@ -1,4 +1,6 @@
 // What evaluating a map is on either grid: the rows of weights of a block of queries, strides, entries in use, the answers.
+#![tactic(auto)]
+
 mod answers;
 mod block;
 mod in_use;

@@ -1,5 +1,7 @@
 // Floats and 64-bit numbers as text: 16 lower-case hexadecimal digits, the highest first. A float is written as its bits
 // (IEEE 754 binary64). Every NaN is read as the one NaN, which is written 7ff8000000000000.
+#![tactic(auto)]
+
 ghost use Rattle.std.specs.Prelude.{◌≡◌, ◌+◌, ◌*◌, ◌/◌, ◌<◌, ◌≤◌, ◌^◌, leb, length};
 ghost use Rattle.std.proofs.Math.Seq.{paste};
 ghost use Rattle.std.specs.Float.{binary64};
@@ -8,14 +10,14 @@ ghost use Rattle.float_text.specs.Digits.{digit_of, letter_of, number_from, digi
 ghost use Rattle.float_text.specs.Bits.{bits_in, bits_text, float_in, float_text, same_bits, Written};
 
 // The 64 bits that a text gives.
-#[derive(Drop)]
+#[derive(Clone, Copy)]
 pub enum Pattern {
     Bits(u64),
     Unreadable,
 }
 
 // The float that a text gives.
-#[derive(Drop)]
+#[derive(Clone, Copy)]
 pub enum Value {
     Float(f64),
     NoFloat,

@@ -1,5 +1,7 @@
 // Four-term sums, and the sum over the axes by the 4 by 4 table of partial sums. After interpn's interp_math and the vertex
 // loop of multibspline. A multiply and an add are rounded one after the other.
+#![tactic(auto)]
+
 ghost use Rattle.std.specs.Prelude.{◌≡◌};
 ghost use Rattle.std.specs.Float.{binary64};
 ghost use Rattle.interp_math.specs.Sum.{mul_add, dot4 as dot4_of};

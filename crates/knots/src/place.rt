@@ -7,7 +7,7 @@ use crate::order::count_below;
 use multibspline::Saturation;
 
 // The place, the span whose basis functions count, and the first of the four coefficients that count.
-#[derive(Drop)]
+#[derive(Clone, Copy)]
 pub struct Loc {
     pub sat: Saturation,
     pub span: usize,

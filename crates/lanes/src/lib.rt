@@ -2,6 +2,8 @@
 // it, so that a line alone waits for each division; the lines beside it do not need one another. Each cell goes through the
 // same operations in the same order as in a line alone, so that no bit can change. These are inner functions of the library;
 // a caller uses `regular` or `rectilinear`.
+#![tactic(auto)]
+
 mod bundle;
 mod cells;
 mod slab;

@@ -1,4 +1,4 @@
 pub mod Stages
-pub mod Due
+pub mod DueBytes
 pub mod Cleared
 pub mod Others

@@ -70,7 +70,7 @@ fn check_bytes(a: usize, base: usize, stride: usize, n: usize, ledger: &[u8]) ->
 }
 
 // A line that is due, or why it is not.
-#[derive(Drop)]
+#[derive(Clone, Copy)]
 pub enum Due {
     At(Line),
     Refused(Refusal),

@@ -1,5 +1,7 @@
 // What stepwise fitting on either grid shares: the ledger, one byte a cell, and the checks of begin, the line call and the task
 // list. These are inner functions of the library; a caller uses `stepwise`.
+#![tactic(auto)]
+
 mod bytes;
 mod shared;
 

@@ -1,4 +1,6 @@
 // The map program.
+#![tactic(auto)]
+
 fn main() {
     map_run::run();
 }

@@ -53,7 +53,7 @@ fn keep(line: &[u8], p: usize, e: usize, numbers: &mut [usize], k: usize) -> boo
     }
 }
 
-#[derive(Drop)]
+#[derive(Clone, Copy)]
 struct Run {
     ok: bool,
     count: usize,
@@ -111,7 +111,7 @@ fn either(a: bool, b: bool) -> bool
 }
 
 // Line 1: the grid, the flag, the axis count and the first four lengths, zeros where there are fewer.
-#[derive(Drop)]
+#[derive(Clone, Copy)]
 pub struct FirstLine {
     pub readable: bool,
     pub regular: bool,

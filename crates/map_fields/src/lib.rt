@@ -1,4 +1,6 @@
 // Reading the map program's input: lines of fields parted by commas.
+#![tactic(auto)]
+
 mod head;
 mod rows;
 

@@ -71,7 +71,7 @@ fn floats_at(text: &[u8], at: usize, e: usize, buffer: &mut [f64]) -> bool
     floats(&text[at..e], buffer)
 }
 
-#[derive(Drop)]
+#[derive(Clone, Copy)]
 pub struct Row {
     pub ok: bool,
     pub next: usize,

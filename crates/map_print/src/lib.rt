@@ -1,4 +1,6 @@
 // The lines that the map program prints, put into a slice from a place on. Each function answers the place after what it put.
+#![tactic(auto)]
+
 ghost use Rattle.std.specs.Prelude.{◌≡◌, [], ◌∷◌, ◌<◌, ◌≤◌, ◌+◌, ◌*◌, ◌/◌, ◌^◌, length};
 ghost use Rattle.float_text.specs.Digits.{digits_of};
 ghost use Rattle.float_text.specs.Bits.{float_text};

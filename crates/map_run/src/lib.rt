@@ -1,4 +1,6 @@
 // The map program: reads standard input, works, writes.
+#![tactic(auto)]
+
 ghost use Rattle.std.specs.Prelude.{◌≡◌, ◌++◌, ◌≤◌, length, take};
 ghost use Rattle.map_work.specs.Steps.{Worked};
 ghost use Rattle.map_run.specs.Reading.{Got};
@@ -6,7 +8,7 @@ ghost use Rattle.map_run.specs.Reading.{Got};
 use libc::{STDIN_FILENO, STDOUT_FILENO};
 
 // How many bytes were read: kept, and by a further read.
-#[derive(Drop)]
+#[derive(Clone, Copy)]
 struct Bytes {
     kept: usize,
     spare: usize,
@@ -31,7 +33,7 @@ fn read_input(input: &mut [u8], spare: &mut [u8]) -> Bytes
 }
 
 // How many bytes were read, and how many of `out` were written.
-#[derive(Drop)]
+#[derive(Clone, Copy)]
 struct Ran {
     kept: usize,
     spare: usize,

@@ -15,7 +15,7 @@ use regular_map::MultiBsplineRegular;
 use shape::Shape;
 
 // A map on either grid; the record of the other grid is nothing but zeros.
-#[derive(Drop)]
+#[derive(Clone, Copy)]
 pub struct Map {
     pub regular: bool,
     pub even: MultiBsplineRegular,
@@ -23,7 +23,7 @@ pub struct Map {
 }
 
 // The number of the map's refusal, or 0, and the map.
-#[derive(Drop)]
+#[derive(Clone, Copy)]
 pub struct Made {
     pub number: u64,
     pub map: Map,

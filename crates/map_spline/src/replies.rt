@@ -16,7 +16,7 @@ use regular_map::MultiBsplineRegular;
 use shape::Refusal;
 
 // The number of a query; the value and the gradient, zeros where it is refused; whether it counts as outside.
-#[derive(Drop)]
+#[derive(Clone, Copy)]
 pub struct Reply {
     pub number: u64,
     pub value: f64,

@@ -1,4 +1,6 @@
 // The work of the map program, on slices.
+#![tactic(auto)]
+
 mod lines;
 mod queries;
 

@@ -19,7 +19,7 @@ fn bump(n: u64, b: bool) -> u64
 }
 
 // Whether a query counts as outside, and the place after its answer.
-#[derive(Drop)]
+#[derive(Clone, Copy)]
 struct Printed {
     outside: bool,
     place: usize,
@@ -40,7 +40,7 @@ fn answer(map: Map, grid: &[f64], coeffs: &[f64], x: &[f64], out: &mut [u8], o: 
     }
 }
 
-#[derive(Drop)]
+#[derive(Clone, Copy)]
 struct Turn {
     ok: bool,
     outside: bool,
@@ -98,7 +98,7 @@ fn ask_one(
     ask_in(input, at, map, grid, coeffs, &mut x[..count], out, o)
 }
 
-#[derive(Drop)]
+#[derive(Clone, Copy)]
 struct End {
     ok: bool,
     asked: u64,

@@ -245,7 +245,7 @@ module _ (f : Format) (first : Reduced) (row : ℕ → Row) (n m : ℕ) (s₀ s�
     (e₁ : s₁ ≡ line_scratch m (λ k. (forward f first row k).upper) (λ k. (forward f first row k).right) n s₀)
     (e₂ : s₂ ≡ put (from m) (solved f n m s₁) n s₁) where
   same : (k : ℕ) → solved f n m s₁ k ≡ solution f first row n k
-  same k = back-ext f _ _ _ _ (n - 1)
+  same k = back-ext f (at s₁) (λ j. at s₁ (m + j)) (λ j. (forward f first row j).upper) (λ j. (forward f first row j).right) (n - 1)
       (λ j h. rw e₁ (scratch-upper m _ _ n s₀ nan j (omega arith) room fits))
       (λ j h. rw e₁ (scratch-right m _ _ n s₀ nan j (omega arith) fits)) (n - 1 - k)
 

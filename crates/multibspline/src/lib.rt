@@ -1,5 +1,7 @@
 // What both grids share: the Thomas algorithm on one line of a map. These are the inner functions of the library; a caller
 // uses `regular` or `rectilinear`. In scratch the upper numbers stand from 0 on and the right sides from m on, the length of the longest axis.
+#![tactic(auto)]
+
 mod checks;
 mod saturation;
 
@@ -42,7 +44,7 @@ pub fn entry(base: usize, stride: usize, n: usize, i: usize, coeffs: &[f64]) -> 
 
 // A row from which the row before it has been eliminated: its upper number and its right side. A loop over the rows carries
 // the one before, so that no row waits for what another has just stored.
-#[derive(Drop)]
+#[derive(Clone, Copy)]
 pub struct Reduced {
     pub upper: f64,
     pub right: f64,

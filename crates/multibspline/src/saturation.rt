@@ -1,6 +1,6 @@
 // Where a query lies on an axis.
 
-#[derive(Drop)]
+#[derive(Clone, Copy)]
 pub enum Saturation {
     // between the second point and the last but one
     None,

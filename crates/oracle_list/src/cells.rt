@@ -54,7 +54,7 @@ pub fn same_cells(a: &[f64], b: &[f64]) -> bool
 }
 
 // What a cell has to pass with the float of its word: the same bits, any NaN for any NaN; or no further away than a tolerance.
-#[derive(Drop)]
+#[derive(Clone, Copy)]
 pub enum Test {
     Same,
     Near(f64),

@@ -1,4 +1,6 @@
 // What the programs that replay the oracle's lists share: the words of a record, and bytes and cells of buffers against them.
+#![tactic(auto)]
+
 mod bytes;
 mod cells;
 mod words;

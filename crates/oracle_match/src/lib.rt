@@ -1,4 +1,6 @@
 // What a replayed call answered and left, against its record: a fit, a batch, a single query, a list of line calls, a text.
+#![tactic(auto)]
+
 mod batches;
 mod fits;
 mod lists;

@@ -1,5 +1,7 @@
 // What the programs that replay the oracle's lists share beside `oracle_list`: a list is read record by record, and what came
 // of the records is counted.
+#![tactic(auto)]
+
 mod record;
 mod tally;
 

@@ -6,7 +6,7 @@ use oracle_list::size_at;
 use shape::Shape;
 
 // How many bytes of a buffer hold the next record; none where the list has no more, or the record cannot be read.
-#[derive(Drop)]
+#[derive(Clone, Copy)]
 pub struct Read {
     pub bytes: usize,
     pub is_end: bool,

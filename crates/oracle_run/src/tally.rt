@@ -2,7 +2,7 @@
 use libc::STDOUT_FILENO;
 
 // What came of a record.
-#[derive(Drop)]
+#[derive(Clone, Copy)]
 pub enum Outcome {
     // the list has no more records
     End,
@@ -44,7 +44,7 @@ pub fn open(path: &[u8]) -> i32 {
     fd
 }
 
-#[derive(Drop)]
+#[derive(Clone, Copy)]
 pub struct Tally {
     first: u64,
     second: u64,

@@ -1,4 +1,6 @@
 // Cubic B-spline maps on a rectilinear grid, double precision. After interpn's multibspline::rectilinear.
+#![tactic(auto)]
+
 mod fit;
 
 pub use fit::coefficients;

@@ -1,7 +1,7 @@
 // What the weights at the two ends of an axis depend on, beside its knots. It travels by value.
 use rectilinear_weights::Ghost;
 
-#[derive(Drop)]
+#[derive(Clone, Copy)]
 pub struct Ends {
     pub low: Ghost,
     pub high: Ghost,

@@ -1,7 +1,7 @@
 // An accepted rectilinear map with its strides. It travels by value; its joined grid is lent beside it.
 use rectilinear_weights::Ghost;
 
-#[derive(Drop)]
+#[derive(Clone, Copy)]
 pub struct Grid {
     pub count: usize,
     pub dims: [usize; 4],

@@ -21,7 +21,7 @@ use rectilinear_weights::Ghost;
 use shape::Answer;
 
 // One row of the system of a line.
-#[derive(Drop)]
+#[derive(Clone, Copy)]
 pub struct Row {
     pub lower: f64,
     pub diag: f64,

@@ -1,5 +1,7 @@
 // Cubic B-spline maps on a rectilinear grid, double precision: the record, building, values, gradients and batches. After
 // interpn's multibspline::rectilinear.
+#![tactic(auto)]
+
 mod answers;
 mod batch;
 mod blocks;

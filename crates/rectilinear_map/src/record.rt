@@ -20,7 +20,7 @@ use rectilinear_weights::Ghost;
 use shape::{Answer, Shape};
 
 // Entries for axes not in use are not looked at; building sets them to zero.
-#[derive(Drop)]
+#[derive(Clone, Copy)]
 pub struct MultiBsplineRectilinear {
     pub count: usize,
     pub dims: [usize; 4],
@@ -33,7 +33,7 @@ pub struct MultiBsplineRectilinear {
 }
 
 // The answer of a function that builds a map, and the map: nothing but zeros where it is refused.
-#[derive(Drop)]
+#[derive(Clone, Copy)]
 pub struct Built {
     pub answer: Answer,
     pub map: MultiBsplineRectilinear,

@@ -1,5 +1,7 @@
 // The four weights on a span of a rectilinear axis: their slopes and their third derivatives. After interpn's
 // multibspline::rectilinear.
+#![tactic(auto)]
+
 mod slopes;
 
 pub use slopes::{basis_span_weight_derivatives, span_weight_third_derivatives};

@@ -9,7 +9,7 @@ use rectilinear_lines::{at_knot, high_row, low_row};
 use rectilinear_weights::Ghost;
 
 // An end row: what the row beside it is multiplied by to take its third term away, and its own numbers after that.
-#[derive(Drop)]
+#[derive(Clone, Copy)]
 pub struct End {
     pub factor: f64,
     pub lower: f64,

@@ -7,7 +7,7 @@ ghost use Rattle.rectilinear_weights.specs.Records.{ghost_numbers};
 use rectilinear_slopes::span_weight_third_derivatives;
 
 // The factors of the three stored coefficients beside a ghost coefficient, in their order on the line.
-#[derive(Drop)]
+#[derive(Clone, Copy)]
 pub struct Ghost {
     pub p0: f64,
     pub p1: f64,

@@ -1,5 +1,7 @@
 // One rectilinear axis: the four weights of a query at each place, their slopes, and the ghost coefficients. After interpn's
 // multibspline::rectilinear.
+#![tactic(auto)]
+
 mod ghosts;
 mod weights;
 

@@ -1,4 +1,6 @@
 // Cubic B-spline maps on a regular grid, double precision. After interpn's multibspline::regular.
+#![tactic(auto)]
+
 mod fit;
 
 pub use fit::coefficients;

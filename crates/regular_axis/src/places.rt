@@ -9,7 +9,7 @@ use multibspline::Saturation;
 use regular_weights::{Loc, get_loc, past_origin};
 
 // An axis of n points, and how many coefficients apart two neighbours along it stand.
-#[derive(Drop)]
+#[derive(Clone, Copy)]
 pub struct Points {
     pub n: usize,
     pub start: f64,

@@ -1,5 +1,7 @@
 // Values and gradients of a regular map at a block of queries, in stages: places, weights, slopes, sums. Each query goes through its
 // own operations in their order.
+#![tactic(auto)]
+
 mod block;
 mod grid;
 mod places;

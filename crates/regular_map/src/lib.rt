@@ -1,5 +1,7 @@
 // Regular maps: the record, building, values, gradients and batches, double precision. After interpn's
 // multibspline::regular.
+#![tactic(auto)]
+
 mod answers;
 mod batch;
 mod blocks;

@@ -18,7 +18,7 @@ use evaluation::{Gradient, Valued};
 use shape::{Answer, Shape};
 
 // Entries for axes not in use are not looked at; building sets them to zero.
-#[derive(Drop)]
+#[derive(Clone, Copy)]
 pub struct MultiBsplineRegular {
     pub count: usize,
     pub dims: [usize; 4],
@@ -31,7 +31,7 @@ pub struct MultiBsplineRegular {
 }
 
 // The answer of a function that builds a map, and the map: nothing but zeros where it is refused.
-#[derive(Drop)]
+#[derive(Clone, Copy)]
 pub struct Built {
     pub answer: Answer,
     pub map: MultiBsplineRegular,

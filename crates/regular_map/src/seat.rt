@@ -10,7 +10,7 @@ use regular_weights::{Loc, cubic_bspline_weights, get_loc, interp_weights, past_
 
 // Its place, origin and distance past the point after the origin, where it is `placed`; nothing but zeros where it has no place.
 // The weights are not here: an array would make this too large to come back in registers.
-#[derive(Drop)]
+#[derive(Clone, Copy)]
 pub struct Seat {
     pub placed: bool,
     pub sat: Saturation,

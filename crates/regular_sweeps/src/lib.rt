@@ -1,5 +1,7 @@
 // All the lines of an axis of a regular grid, row by row in place. These are inner functions of the library; a caller uses
 // `regular`.
+#![tactic(auto)]
+
 mod bundle;
 mod cells;
 mod slab;

@@ -1,4 +1,6 @@
 // One regular axis: the place of a query, its four weights and their slopes. After interpn's multibspline::regular.
+#![tactic(auto)]
+
 mod place;
 mod weights;
 

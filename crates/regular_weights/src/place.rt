@@ -6,7 +6,7 @@ ghost use Rattle.regular_weights.specs.Place.{loc_of, get_loc, past_origin};
 use multibspline::Saturation;
 
 // The place with the first of the four coefficients that count, or that the cell cannot be represented.
-#[derive(Drop)]
+#[derive(Clone, Copy)]
 pub enum Loc {
     At(Saturation, usize),
     Unrepresentable,

@@ -1,5 +1,7 @@
 // Replays the list of fits in fits.txt: runs each call, compares what it answers and leaves with what the list says, and
 // prints how many there were and how many differ. The list comes from the folder oracle/, whose README describes it.
+#![tactic(auto)]
+
 mod call;
 mod record;
 

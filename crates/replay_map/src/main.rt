@@ -1,6 +1,8 @@
 // Replays the list of inputs of the map program in cases.txt: runs the program's work on each, compares what it prints with
 // what the list says, byte for byte, and prints how many cases there were and how many differ. The list comes from the folder
 // oracle/, whose README describes it.
+#![tactic(auto)]
+
 mod case;
 mod compare;
 

@@ -1,6 +1,8 @@
 // Replays the list of queries on maps in queries.txt: runs each batch and each query, compares what they answer and leave with
 // what the list says, and prints how many there were and how many records differ. The list comes from the folder oracle/, whose
 // README describes it.
+#![tactic(auto)]
+
 mod batch;
 mod map;
 mod ones;

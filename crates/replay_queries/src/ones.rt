@@ -6,7 +6,7 @@ use crate::map::float_of;
 use evaluation::Valued;
 
 // A value's number, and the value: 0 where it is refused.
-#[derive(Drop)]
+#[derive(Clone, Copy)]
 struct One {
     number: u64,
     value: f64,

@@ -1,6 +1,8 @@
 // Replays the list of stepwise fits in tasks.txt: runs each begin and each task list, compares what they answer and leave with
 // what the list says, and prints how many there were and how many records differ. The list comes from the folder oracle/, whose
 // README describes it.
+#![tactic(auto)]
+
 mod call;
 mod record;
 mod run;

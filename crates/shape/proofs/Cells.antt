@@ -36,6 +36,7 @@ module _ {A : Type 0} (place : ℕ → ℕ) (g : ℕ → A) where
 
   -- the cell at a place, where the later places differ from it
   pub put_same : (n : ℕ) (l : List A) (k : ℕ) (d : A) → k < n → place k < length l → ((j : ℕ) → k < j → j < n → place k ≢ place j) → get_or (put place g n l) (place k) d ≡ g k
+  put_same zero l k d h inside apart = elim h [ ]
   put_same (suc n) l k d h inside apart =
       ⊎_elim
       (λ (same : k ≡ n).

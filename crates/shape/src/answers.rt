@@ -3,7 +3,7 @@
 ghost use Rattle.std.specs.Prelude.{◌≡◌};
 ghost use Rattle.shape.specs.Refusal.{refusal_number, answer_number};
 
-#[derive(Drop)]
+#[derive(Clone, Copy)]
 pub enum Refusal {
     // 1: no axes, or more than four
     AxisCount,
@@ -25,7 +25,7 @@ pub enum Refusal {
     NotDue,
 }
 
-#[derive(Drop)]
+#[derive(Clone, Copy)]
 pub enum Answer {
     Accepted,
     Refused(Refusal),
@@ -62,7 +62,7 @@ impl Answer {
 }
 
 // Where a line begins.
-#[derive(Drop)]
+#[derive(Clone, Copy)]
 pub enum FirstCell {
     At(usize),
     Refused(Refusal),

@@ -49,7 +49,7 @@ pub fn first_cell_of(n: usize, s: usize, l: usize) -> usize
 }
 
 // A line by its numbers: its n cells stand from `base` on, `stride` apart; `longest` is the length of the longest axis.
-#[derive(Drop)]
+#[derive(Clone, Copy)]
 pub struct Line {
     pub n: usize,
     pub stride: usize,
@@ -57,7 +57,7 @@ pub struct Line {
     pub longest: usize,
 }
 
-#[derive(Drop)]
+#[derive(Clone, Copy)]
 pub enum LineFound {
     At(Line),
     NoSuchLine,

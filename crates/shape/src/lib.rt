@@ -1,4 +1,6 @@
 // The shape of a map of one to four axes, and the answers of the library's calls. No floats here.
+#![tactic(auto)]
+
 mod answers;
 mod axes;
 pub mod inner;
@@ -13,7 +15,7 @@ ghost use Rattle.shape.specs.Sizes.{coeff_storage_len, construction_scratch_len,
 pub use answers::{Answer, FirstCell, Refusal};
 
 // Axis count and lengths, axis 0 first; lengths past the axis count are not looked at. The last axis is the fastest.
-#[derive(Drop)]
+#[derive(Clone, Copy)]
 pub struct Shape {
     pub count: usize,
     pub dims: [usize; 4],

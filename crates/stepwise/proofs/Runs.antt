@@ -31,7 +31,7 @@ use Rattle.ledger.specs.Ready.{call_ready_checks}
 use Rattle.ledger.specs.declared.bytes.Due.{Due}
 use Rattle.ledger.specs.declared.bytes.Due.TheVariants.{At}
 use Rattle.ledger.specs.declared.bytes.Due.TheVariants as Dues
-use Rattle.ledger.proofs.Due.{due-each}
+use Rattle.ledger.proofs.DueBytes.{due-each}
 use Rattle.ledger.proofs.Stages.{is-accepted, is-refused, refusal-some, refusal-not-0, CallReady, call-ready, begun-ready, call-not-ready, line-left}
 
 -- ---- begin

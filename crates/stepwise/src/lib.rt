@@ -1,5 +1,7 @@
 // Stepwise fitting: begin, one line at a time in any order, or a list of lines, with a ledger that says what is solved. The
 // caller lends the ledger, one byte a cell: how many of the lines through it, axis 0 first, are solved.
+#![tactic(auto)]
+
 mod rectilinear_list;
 mod rectilinear_steps;
 mod regular_list;

@@ -5,7 +5,7 @@ use lib.Ieee.{binary64, nan}
 use borrow.Author.Rules.{rules}
 use Rattle.knots.specs.Checks.{grid_check, knots_check}
 use Rattle.rectilinear.specs.Fit.{solve, upper}
-use Rattle.ledger.proofs.Due.{bumped-is}
+use Rattle.ledger.proofs.DueBytes.{bumped-is}
 use Rattle.ledger.proofs.Stages.{call-ready}
 use Rattle.stepwise.proofs.OneLine.{one-coefs, one-scratch}
 use Rattle.stepwise.proofs.Runs.{called-accepted, not-due, line-due}

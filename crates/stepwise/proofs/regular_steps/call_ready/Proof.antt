@@ -6,7 +6,7 @@ use lib.Ieee.{binary64, nan}
 use borrow.Author.Rules.{rules}
 use Rattle.regular_lines.specs.Rows.{coefficient, upper_number}
 use Rattle.regular.specs.Fit.{solve, upper}
-use Rattle.ledger.proofs.Due.{bumped-is}
+use Rattle.ledger.proofs.DueBytes.{bumped-is}
 use Rattle.ledger.proofs.Stages.{call-ready}
 use Rattle.stepwise.proofs.OneLine.{one-coefs, one-scratch}
 use Rattle.stepwise.proofs.Runs.{called-accepted, not-due, line-due}

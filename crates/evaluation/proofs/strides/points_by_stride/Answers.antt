@@ -1,0 +1,20 @@
+use mathlib.Core.Path.{◌≡◌, ◌∙◌}
+use Prim.Native.Nat.{◌*◌}
+use native.Mathlib.Omega.{arith}
+use lib.ListN.{take, get_or}
+use borrow.Author.Rules.{rules}
+use Rattle.shape.specs.Shape.{size}
+use Rattle.evaluation.proofs.Striding.{points-of-stride}
+use Rattle.evaluation.proofs.strides.points_by_stride.Goals as goal
+
+pub strides_of-strides-requires : goal.strides_of-strides-requires
+strides_of-strides-requires c = c.requires
+
+pub returns : goal.returns
+returns c =
+    rw c.strides_of-strides.ensures (points-of-stride c.args.dims (omega (arith, c.well_formed)) c.args.count c.requires.some-axis)
+
+pub overflow_mul-result : goal.overflow_mul-result
+overflow_mul-result c =
+    let is : get_or c.args.dims 0 0 * get_or c.strides_of-strides.result 0 0 ≡ size (take c.args.count c.args.dims) = returns c in
+    omega (arith, is, c.requires.few-points)

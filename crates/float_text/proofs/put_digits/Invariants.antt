@@ -1,0 +1,11 @@
+use Prim.Native.Nat.{◌-◌}
+use native.Mathlib.Omega.{arith}
+use borrow.Author.Rules.{rules}
+use Rattle.float_text.proofs.Writing.{Printing, Printing-start, Printing-weight, Printing-digit, Printing-step, Printing-done}
+use Rattle.float_text.proofs.put_digits.Given as goal
+
+abbrev pub invariant-loop-i : goal.invariant-loop-i
+invariant-loop-i l = Printing l.base l.count l.n l.at l.initial.out l.out l.left l.weight l.i
+
+abbrev pub decreases-loop-i : goal.decreases-loop-i
+decreases-loop-i l = l.count - l.i

@@ -1,0 +1,11 @@
+use Prim.Native.Nat.{◌-◌}
+use borrow.Author.Rules.{rules}
+use lib.ListN.{length}
+use Rattle.float_text.proofs.Reading.{Reading, Reading-start, Reading-fits, Reading-mul, Reading-step, Reading-bad, Reading-done}
+use Rattle.float_text.proofs.read_digits.Given as goal
+
+abbrev pub invariant-loop-i : goal.invariant-loop-i
+invariant-loop-i l = Reading l.base l.text l.n l.i
+
+abbrev pub decreases-loop-i : goal.decreases-loop-i
+decreases-loop-i l = length l.text - l.i

@@ -1,0 +1,17 @@
+use mathlib.Core.Path.{refl, ◌∙◌}
+use Prim.Native.Nat.{◌+◌, ◌*◌, ◌-◌}
+use native.Mathlib.Omega.{arith}
+use lib.ListN.{get_or}
+use lib.Ieee.{binary64}
+use borrow.Author.Rules.{rules}
+use Rattle.interp_math.specs.Table.{lanes, sloped, part_lanes}
+use Rattle.interp_math.proofs.Tables.{near, RowsTo, rows_start, rows_next, part-row, value_row, part_up, own-up, value-up}
+use Rattle.interp_math.proofs.slopes.parts_3.Given as goal
+
+abbrev pub invariant-loop-p : goal.invariant-loop-p
+invariant-loop-p l = RowsTo (λ k. lanes binary64 l.coeffs l.strides (sloped l.weights l.slopes 0) 2 (l.at + k * get_or l.strides 2 0)) l.part_0 l.p
+    × RowsTo (λ k. lanes binary64 l.coeffs l.strides (sloped l.weights l.slopes 1) 2 (l.at + k * get_or l.strides 2 0)) l.part_1 l.p
+    × RowsTo (λ k. lanes binary64 l.coeffs l.strides l.weights 2 (l.at + k * get_or l.strides 2 0)) l.value l.p
+
+abbrev pub decreases-loop-p : goal.decreases-loop-p
+decreases-loop-p l = 4 - l.p

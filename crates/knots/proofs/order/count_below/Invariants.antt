@@ -1,0 +1,12 @@
+use Prim.Native.Nat.{◌+◌}
+use native.Mathlib.Omega.{arith}
+use borrow.Author.Rules.{rules}
+use Rattle.knots.specs.Window.{Between}
+use Rattle.knots.proofs.Counts.{between_start}
+use Rattle.knots.proofs.order.count_below.Given as goal
+
+abbrev pub invariant-loop-len : goal.invariant-loop-len
+invariant-loop-len l = Between l.knots l.x l.low (l.low + l.len)
+
+abbrev pub decreases-loop-len : goal.decreases-loop-len
+decreases-loop-len l = l.len

@@ -1,0 +1,13 @@
+use Prim.Native.Nat.{◌-◌}
+use native.Mathlib.Omega.{arith}
+use borrow.Author.Rules.{rules}
+use lib.Ieee.{binary64}
+use Rattle.lanes.specs.Lanes.{step_cell}
+use Rattle.lanes.proofs.Rows.{Swept, sweep-start, sweep-step, sweep-done}
+use Rattle.lanes.proofs.bundle.bundle_step_sweep.Given as goal
+
+abbrev pub invariant-loop-j : goal.invariant-loop-j
+invariant-loop-j l = Swept (step_cell binary64 l.factor l.d) l.p l.q l.n l.m l.initial.cells l.cells l.j
+
+abbrev pub decreases-loop-j : goal.decreases-loop-j
+decreases-loop-j l = l.m - l.j

@@ -1,0 +1,14 @@
+use borrow.Author.Rules.{rules}
+use lib.Ieee.{binary64}
+use Rattle.lanes.specs.Lanes.{back_cell}
+use Rattle.lanes.proofs.Turns.{Down, down-start, down_step, down-done}
+use Rattle.lanes.proofs.slab.slab_substitute.Goals as goal
+
+pub loop-i-init : goal.loop-i-init
+loop-i-init c = search down-start
+
+pub loop-i-preserved : goal.loop-i-preserved
+loop-i-preserved c = search down_step
+
+pub returns : goal.returns
+returns c = search down-done

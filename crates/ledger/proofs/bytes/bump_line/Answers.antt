@@ -1,0 +1,9 @@
+use mathlib.Core.Path.{refl}
+use borrow.Author.Rules.{rules}
+use Rattle.ledger.proofs.DueBytes.{set_more}
+use Rattle.ledger.proofs.bytes.bump_line.Goals as goal
+
+pub returns : goal.returns
+returns c =
+    let a = c.args in
+    set_more a.found.base a.found.stride a.found.n a.axis _ a.ledger.now refl c.requires.2 c.set_bytes.ensures

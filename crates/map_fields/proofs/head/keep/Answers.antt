@@ -1,0 +1,19 @@
+use borrow.Author.Rules.{rules}
+use mathlib.Core.Path.{sym, ◌∙◌}
+use Rattle.map_fields.proofs.head.keep.Reads as reads
+use Rattle.map_fields.proofs.head.keep.Lts as lts
+use Rattle.map_fields.proofs.head.decimal_at.Reads as decimal-at-reads
+use Rattle.map_fields.proofs.head.store.Reads as store-reads
+use Rattle.map_fields.proofs.head.keep.Goals as goal
+
+pub returns-in-Bits-clause-value : goal.returns-in-Bits-clause-value
+returns-in-Bits-clause-value c = let v = sym c.decimal_at-v.ensures ∙ c.in-Bits.is in rw v
+
+pub returns-in-Bits-clause-numbers_after : goal.returns-in-Bits-clause-numbers_after
+returns-in-Bits-clause-numbers_after c = let v = sym c.decimal_at-v.ensures ∙ c.in-Bits.is in rw v c.store.ensures
+
+pub returns-in-Unreadable-clause-value : goal.returns-in-Unreadable-clause-value
+returns-in-Unreadable-clause-value c = let v = sym c.decimal_at-v.ensures ∙ c.in-Unreadable.is in rw v
+
+pub returns-in-Unreadable-clause-numbers_after : goal.returns-in-Unreadable-clause-numbers_after
+returns-in-Unreadable-clause-numbers_after c = let v = sym c.decimal_at-v.ensures ∙ c.in-Unreadable.is in rw v c.store-in-Unreadable.ensures

@@ -1,0 +1,18 @@
+use mathlib.Core.Path.{◌≡◌, refl}
+use Prim.Native.Nat.{◌-◌}
+use borrow.Author.Rules.{rules}
+use lib.ListN.{length}
+use Rattle.map_fields.proofs.Finding.{Finding, Finding-found, Finding-step, Finding-done}
+use Rattle.map_fields.proofs.rows.find.Goals as goal
+
+pub loop-i-init : goal.loop-i-init
+loop-i-init c = record { within = search rules; ahead = refl }
+
+pub returns-then-s-i : goal.returns-then-s-i
+returns-then-s-i c = (search Finding-found, search rules)
+
+pub loop-i-preserved : goal.loop-i-preserved
+loop-i-preserved c = search Finding-step
+
+pub returns : goal.returns
+returns c = (search Finding-done, search rules)

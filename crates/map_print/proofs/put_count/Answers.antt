@@ -1,0 +1,21 @@
+use borrow.Author.Rules.{rules}
+use Rattle.map_print.proofs.Printing.{count-1, count-2, count-3, count-4, count-5}
+use Rattle.map_print.proofs.put_count.Reads as reads
+use Rattle.map_print.proofs.put_count.Lts as lts
+use Rattle.map_print.proofs.put_digits.Reads as put-digits-reads
+use Rattle.map_print.proofs.put_count.Goals as goal
+
+pub returns-then-n-lt10 : goal.returns-then-n-lt10
+returns-then-n-lt10 c = rw (count-1 c.args.n (search rules)) c.put_digits.ensures
+
+pub returns-then-n-lt100 : goal.returns-then-n-lt100
+returns-then-n-lt100 c = rw (count-2 c.args.n (search rules) (search rules)) c.put_digits-then-n-lt100.ensures
+
+pub returns-then-n-lt1000 : goal.returns-then-n-lt1000
+returns-then-n-lt1000 c = rw (count-3 c.args.n (search rules) (search rules)) c.put_digits-then-n-lt1000.ensures
+
+pub returns-then-n-lt10000 : goal.returns-then-n-lt10000
+returns-then-n-lt10000 c = rw (count-4 c.args.n (search rules) (search rules)) c.put_digits-then-n-lt10000.ensures
+
+pub returns : goal.returns
+returns c = rw (count-5 c.args.n (search rules)) c.put_digits-2.ensures

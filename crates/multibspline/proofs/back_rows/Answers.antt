@@ -1,0 +1,13 @@
+use borrow.Author.Rules.{rules}
+use lib.Ieee.{binary64}
+use Rattle.multibspline.proofs.Sweeps.{Substituted, sub-start, sub-step, sub-line, sub-done}
+use Rattle.multibspline.proofs.back_rows.Goals as goal
+
+pub loop-i-init : goal.loop-i-init
+loop-i-init c = search sub-start
+
+pub loop-i-preserved : goal.loop-i-preserved
+loop-i-preserved c = search sub-step
+
+pub returns : goal.returns
+returns c = record { coeffs_after = search sub-line; scratch_after = search sub-done }

@@ -1,0 +1,13 @@
+use Prim.Native.Nat.{◌-◌}
+use native.Mathlib.Omega.{arith}
+use borrow.Author.Rules.{rules}
+use lib.ListN.{length}
+use Rattle.float_text.specs.Bits.{same_bits}
+use Rattle.oracle_list.proofs.CellLaws.{Pairs, Pairs-start, Pairs-step, Pairs-bad, Pairs-done, Pairs-length}
+use Rattle.oracle_list.proofs.cells.same_cells.Given as goal
+
+abbrev pub invariant-loop-i : goal.invariant-loop-i
+invariant-loop-i l = Pairs same_bits l.a l.b l.i
+
+abbrev pub decreases-loop-i : goal.decreases-loop-i
+decreases-loop-i l = length l.a - l.i

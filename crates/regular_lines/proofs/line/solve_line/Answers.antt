@@ -1,0 +1,17 @@
+use borrow.Author.Rules.{rules}
+use lib.ListN.{length}
+use Rattle.shape.proofs.Fitted.{fitted-refused, fitted-accepted}
+use Rattle.multibspline.proofs.Line.{line-fits}
+use Rattle.regular_lines.proofs.line.solve_line.Goals as goal
+
+pub returns-in-Refused : goal.returns-in-Refused
+returns-in-Refused c = fitted-refused c.in-Refused.is c.check_line.ensures
+
+pub solve_checked-requires : goal.solve_checked-requires
+solve_checked-requires c =
+    let a = c.args in
+    line-fits a.base a.stride a.n a.longest (length a.coeffs.now) (length a.scratch.now) c.in_default.is c.check_line.ensures
+
+pub returns : goal.returns
+returns c =
+    fitted-accepted c.in_default.is c.check_line.ensures c.solve_checked.ensures.coeffs_after c.solve_checked.ensures.scratch_after

@@ -1,0 +1,8 @@
+use Rattle.std.proofs.Common.{refl}
+use lib.Ieee.{neg, of_bits}
+use Rattle.regular_weights.specs.Weights.{cubic_bspline_weight_derivatives}
+use Rattle.regular_weights.proofs.weights.cubic_bspline_weight_derivatives.Goals as goal
+
+pub returns : goal.returns
+unfolding cubic_bspline_weight_derivatives neg of_bits
+returns c = refl

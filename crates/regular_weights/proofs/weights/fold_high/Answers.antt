@@ -1,0 +1,8 @@
+use Rattle.std.proofs.Common.{rules}
+use lib.Ieee.{neg, of_bits}
+use Rattle.regular_weights.specs.Weights.{fold_high}
+use Rattle.regular_weights.proofs.weights.fold_high.Goals as goal
+
+pub returns : goal.returns
+unfolding fold_high neg of_bits
+returns c = rw (c.mul_add.ensures, c.mul_add-2.ensures)
