@@ -7,10 +7,13 @@ use Rattle.regular_lines.proofs.line.solve_line.Goals as goal
 pub returns-in-Refused : goal.returns-in-Refused
 returns-in-Refused c = fitted-refused c.in-Refused.is c.check_line.ensures
 
-pub solve_checked-requires : goal.solve_checked-requires
-solve_checked-requires c =
-    let a = c.args in
-    line-fits a.base a.stride a.n a.longest (length a.coeffs.now) (length a.scratch.now) c.in_default.is c.check_line.ensures
+pub solve_checked-requires-clause-le_n : goal.solve_checked-requires-clause-le_n
+solve_checked-requires-clause-le_n c =
+    let a = c.args in (line-fits a.base a.stride a.n a.longest (length a.coeffs.now) (length a.scratch.now) c.in_default.is c.check_line.ensures).0
+
+pub solve_checked-requires-clause-n_le_m : goal.solve_checked-requires-clause-n_le_m
+solve_checked-requires-clause-n_le_m c =
+    let a = c.args in (line-fits a.base a.stride a.n a.longest (length a.coeffs.now) (length a.scratch.now) c.in_default.is c.check_line.ensures).1
 
 pub returns : goal.returns
 returns c =

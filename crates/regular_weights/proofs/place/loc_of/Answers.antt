@@ -13,9 +13,13 @@ seen : (c : After-truncating_f64_to_u64-u)
 unfolding neg of_bits
 seen c = rw c.truncating_f64_to_u64-u.ensures (loc_in _ _ c.if-q.true c.if-q-2.true)
 
-pub truncating_f64_to_u64-u-requires : goal.truncating_f64_to_u64-u-requires
+pub truncating_f64_to_u64-u-requires-clause-lower_bound : goal.truncating_f64_to_u64-u-requires-clause-lower_bound
 unfolding neg of_bits
-truncating_f64_to_u64-u-requires c = (above_minus_one _ c.if-q.true, below-twice _ c.if-q-2.true)
+truncating_f64_to_u64-u-requires-clause-lower_bound c = above_minus_one _ c.if-q.true
+
+pub truncating_f64_to_u64-u-requires-clause-upper_bound : goal.truncating_f64_to_u64-u-requires-clause-upper_bound
+unfolding neg of_bits
+truncating_f64_to_u64-u-requires-clause-upper_bound c = below-twice _ c.if-q-2.true
 
 pub returns-then-u-eq0 : goal.returns-then-u-eq0
 returns-then-u-eq0 c = sym (seen c.before ∙ first-span _ _ c.if-u-eq0.true)
