@@ -1,18 +1,15 @@
 use Rattle.map_fields.proofs.FloatRows.{field-read, field-unread}
 use borrow.Author.Rules.{rules}
-use Rattle.map_fields.proofs.rows.put_float.Reads as reads
-use Rattle.map_fields.proofs.rows.put_float.Lts as lts
-use Rattle.map_fields.proofs.rows.float_at.Reads as float-at-reads
 use Rattle.map_fields.proofs.rows.put_float.Goals as goal
 
 pub returns-in-Float-clause-value : goal.returns-in-Float-clause-value
-returns-in-Float-clause-value c = (field-read _ _ _ _ _ c.float_at-v.ensures c.in-Float.is).0
+returns-in-Float-clause-value c = (field-read _ _ _ c.args.k c.args.buffer.now c.float_at-v.ensures c.in-Float.is).0
 
 pub returns-in-Float-clause-buffer_after : goal.returns-in-Float-clause-buffer_after
-returns-in-Float-clause-buffer_after c = (field-read _ _ _ _ _ c.float_at-v.ensures c.in-Float.is).1
+returns-in-Float-clause-buffer_after c = (field-read _ _ _ c.args.k c.args.buffer.now c.float_at-v.ensures c.in-Float.is).1
 
 pub returns-in-NoFloat-clause-value : goal.returns-in-NoFloat-clause-value
-returns-in-NoFloat-clause-value c = (field-unread _ _ _ _ c.float_at-v.ensures c.in-NoFloat.is).0
+returns-in-NoFloat-clause-value c = (field-unread _ _ c.args.k c.args.buffer.now c.float_at-v.ensures c.in-NoFloat.is).0
 
 pub returns-in-NoFloat-clause-buffer_after : goal.returns-in-NoFloat-clause-buffer_after
-returns-in-NoFloat-clause-buffer_after c = (field-unread _ _ _ _ c.float_at-v.ensures c.in-NoFloat.is).1
+returns-in-NoFloat-clause-buffer_after c = (field-unread _ _ c.args.k c.args.buffer.now c.float_at-v.ensures c.in-NoFloat.is).1

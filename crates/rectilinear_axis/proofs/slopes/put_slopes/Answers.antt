@@ -1,0 +1,27 @@
+use Prim.Native.Nat.{◌-◌}
+use native.Mathlib.Omega.{arith}
+use lib.Ieee.{binary64}
+use Rattle.rectilinear_weights.specs.Records.{ghost_numbers}
+use Rattle.evaluation.proofs.Rows.{RowsSoFar, rows-begin, rows-room, rows_next, rows-done}
+use Rattle.rectilinear_axis.specs.Axis.{slopes_at}
+use Rattle.rectilinear_axis.proofs.slopes.put_slopes.Goals as goal
+
+pub loop-k-init : goal.loop-k-init
+loop-k-init c = rows-begin _ _ _ _
+
+pub slopes_at-slopes-requires : goal.slopes_at-slopes-requires
+slopes_at-slopes-requires c = (c.requires.in_bounds.0, c.requires.counted.each c.loop-k.k c.loop-k-test.true)
+
+pub put_row-requires : goal.put_row-requires
+put_row-requires c = rows-room _ _ _ _ c.loop-k.invariant c.loop-k-test.true c.requires.in_bounds.3
+
+pub loop-k-preserved : goal.loop-k-preserved
+loop-k-preserved c =
+    let w = c.slopes_at-slopes in
+    rows_next _ _ _ _ c.loop-k.invariant c.loop-k-test.true c.requires.in_bounds.3 (omega (arith, w.type_inv)) w.ensures c.put_row.ensures
+
+pub shape_of-work : goal.shape_of-work
+shape_of-work c = c.loop-k.invariant.length-rows
+
+pub returns : goal.returns
+returns c = rows-done _ _ _ _ c.loop-k.invariant c.loop-k-test.false

@@ -1,0 +1,20 @@
+use borrow.Author.Rules.{rules}
+use lib.ListN.{length}
+use Rattle.shape.proofs.Fitted.{fitted-refused, fitted-accepted}
+use Rattle.multibspline.proofs.Line.{line-fits}
+use Rattle.rectilinear_lines.proofs.line.solve_line.Goals as goal
+
+pub returns-in-Refused : goal.returns-in-Refused
+returns-in-Refused c = fitted-refused c.in-Refused.is c.check_line.ensures
+
+pub solve_checked-requires-clause-in_bounds : goal.solve_checked-requires-clause-in_bounds
+solve_checked-requires-clause-in_bounds c =
+    let a = c.args in (line-fits a.base a.stride (length a.grid.now) a.longest (length a.coeffs.now) (length a.scratch.now) c.in_default.is c.check_line.ensures).0
+
+pub solve_checked-requires-clause-grid_len_bound : goal.solve_checked-requires-clause-grid_len_bound
+solve_checked-requires-clause-grid_len_bound c =
+    let a = c.args in (line-fits a.base a.stride (length a.grid.now) a.longest (length a.coeffs.now) (length a.scratch.now) c.in_default.is c.check_line.ensures).1
+
+pub returns : goal.returns
+returns c =
+    fitted-accepted c.in_default.is c.check_line.ensures c.solve_checked.ensures.coeffs_after c.solve_checked.ensures.scratch_after

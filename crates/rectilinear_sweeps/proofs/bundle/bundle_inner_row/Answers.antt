@@ -1,0 +1,13 @@
+use native.Mathlib.Omega.{arith}
+use borrow.Author.Rules.{rules}
+use lib.Ieee.{binary64}
+use Rattle.rectilinear_sweeps.proofs.Sweeps.{inner-swept}
+use Rattle.rectilinear_sweeps.proofs.bundle.bundle_inner_row.Goals as goal
+
+pub bundle_step_row-requires-clause-i_lt_n : goal.bundle_step_row-requires-clause-i_lt_n
+bundle_step_row-requires-clause-i_lt_n c = (omega (arith, c.requires.i_nonzero), omega (arith, c.requires.i_nonzero), λ e. omega (arith, c.requires.i_nonzero))
+
+pub returns : goal.returns
+returns c =
+    let a = c.args in
+    inner-swept binary64 a.grid.now _ _ _ _ _ _ a.upper.now a.i _ c.at_knot-w.ensures c.bundle_step_row.ensures

@@ -1,0 +1,18 @@
+use Prim.Native.Nat.{◌-◌}
+use borrow.Author.Rules.{rules}
+use lib.ListN.{length}
+use lib.Ieee.{binary64}
+use Rattle.lanes.proofs.Groups.{SolvedTo, to_start, to_step, to-done}
+use Rattle.rectilinear_weights.specs.Records.{ghost_numbers}
+use Rattle.rectilinear_lines.specs.Rows.{coefficient}
+use Rattle.rectilinear_sweeps.proofs.bundle.solve_ends.Goals as goal
+
+pub loop-first-init : goal.loop-first-init
+loop-first-init c = to_start
+
+pub loop-first-preserved : goal.loop-first-preserved
+loop-first-preserved c =
+    to_step _ c.loop-first.invariant c.solve_bundle-m.ensures.result_nonzero.1 c.solve_bundle-m.ensures.coeffs_after
+
+pub returns : goal.returns
+returns c = search to-done

@@ -1,0 +1,40 @@
+use mathlib.Core.Path.{◌≡◌, sym, ap, ◌∙◌}
+use mathlib.Core.List.{List}
+use Prim.Native.Nat.{◌≤◌}
+use native.Mathlib.Omega.{arith}
+use lib.ListN.{length, take}
+use lib.Ieee.{Float, binary64}
+use borrow.Author.Rules.{rules}
+use Rattle.shape.proofs.Fitted.{fitted-refused, fitted-accepted}
+use Rattle.regular.specs.Fit.{regular_fit, regular_scratch}
+use Rattle.regular.proofs.Total.{InRange, fit-range}
+use Rattle.regular.proofs.fit.fit.Goals as goal
+
+pub returns-in-Refused : goal.returns-in-Refused
+returns-in-Refused c =
+    fitted-refused c.in-Refused.is c.check_fit.ensures
+
+pub copy-requires : goal.copy-requires
+copy-requires c =
+    let a = c.args in
+    let r = fit-range a.count a.dims (length a.vals.now) (length a.coeffs.now) (length a.scratch.now) c.in_default.is c.check_fit.ensures (omega (arith, c.well_formed)) in
+    r.samples-are ∙ sym r.coefs-are
+
+pub solve_axes-requires-clause-usable : goal.solve_axes-requires-clause-usable
+solve_axes-requires-clause-usable c =
+    let a = c.args in
+    let r = fit-range a.count a.dims (length a.vals.now) (length a.coeffs.now) (length a.scratch.now) c.in_default.is c.check_fit.ensures (omega (arith, c.well_formed)) in
+    r.shape
+
+pub solve_axes-requires-clause-coeffs_len : goal.solve_axes-requires-clause-coeffs_len
+solve_axes-requires-clause-coeffs_len c =
+    let a = c.args in
+    let r = fit-range a.count a.dims (length a.vals.now) (length a.coeffs.now) (length a.scratch.now) c.in_default.is c.check_fit.ensures (omega (arith, c.well_formed)) in
+    (ap length c.copy.ensures ∙ r.samples-are, r.scratch-room)
+
+pub returns : goal.returns
+returns c =
+    let a = c.args in
+    fitted-accepted c.in_default.is c.check_fit.ensures
+    (c.solve_axes.ensures.coeffs_after ∙ ap (regular_fit binary64 (take a.count a.dims)) c.copy.ensures)
+    (c.solve_axes.ensures.scratch_after ∙ ap (λ (xs : List Float). regular_scratch binary64 (take a.count a.dims) xs a.scratch.now) c.copy.ensures)

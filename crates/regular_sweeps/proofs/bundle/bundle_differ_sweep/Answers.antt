@@ -1,0 +1,31 @@
+use Prim.Native.Nat.{◌-◌}
+use native.Mathlib.Omega.{arith}
+use borrow.Author.Rules.{rules}
+use lib.Ieee.{binary64}
+use Rattle.lanes.proofs.Rows.{Swept, sweep-start, sweep-step, sweep-done}
+use Rattle.regular_sweeps.specs.Sweeps.{differ_cell}
+use Rattle.regular_sweeps.proofs.bundle.bundle_differ_sweep.Goals as goal
+
+pub loop-j-init : goal.loop-j-init
+loop-j-init c = sweep-start
+
+pub overflow_mul-j : goal.overflow_mul-j
+overflow_mul-j c = omega (arith, c.requires.here c.loop-j.j c.loop-j-test.true)
+
+pub overflow_add-p : goal.overflow_add-p
+overflow_add-p c = omega (arith, c.requires.here c.loop-j.j c.loop-j-test.true)
+
+pub overflow_mul-j-in-loop-j : goal.overflow_mul-j-in-loop-j
+overflow_mul-j-in-loop-j c = omega (arith, c.requires.there c.loop-j.j c.loop-j-test.true)
+
+pub overflow_add-q : goal.overflow_add-q
+overflow_add-q c = omega (arith, c.requires.there c.loop-j.j c.loop-j-test.true)
+
+pub differ_cell-requires : goal.differ_cell-requires
+differ_cell-requires c = omega (arith, c.requires.here c.loop-j.j c.loop-j-test.true, c.requires.there c.loop-j.j c.loop-j-test.true)
+
+pub loop-j-preserved : goal.loop-j-preserved
+loop-j-preserved c = search sweep-step
+
+pub returns : goal.returns
+returns c = search sweep-done
