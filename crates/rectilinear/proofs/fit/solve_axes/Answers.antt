@@ -1,0 +1,43 @@
+use mathlib.Core.Path.{◌≡◌, ◌∙◌}
+use Prim.Native.Nat.{◌-◌, ◌≤◌}
+use native.Mathlib.Omega.{arith}
+use lib.ListN.{length, take}
+use lib.Ieee.{binary64, nan}
+use borrow.Author.Rules.{rules}
+use Rattle.shape.proofs.Accepted.{axes-are}
+use Rattle.shape.proofs.Loops.{AxesSolved, axes-start, axes-step, axes-coefs, axes-scratch}
+use Rattle.rectilinear.specs.Fit.{solve, upper}
+use Rattle.rectilinear.proofs.fit.solve_axes.Goals as goal
+
+pub loop-axis-init : goal.loop-axis-init
+loop-axis-init c = axes-start nan _ _ _
+
+pub solve_axis-requires-clause-axis_lt_count : goal.solve_axis-requires-clause-axis_lt_count
+solve_axis-requires-clause-axis_lt_count c =
+    let w = c.loop-axis.invariant in
+    (c.loop-axis-test.true, c.requires.usable.0, c.requires.usable.1)
+
+pub solve_axis-requires-clause-coeffs_len : goal.solve_axis-requires-clause-coeffs_len
+solve_axis-requires-clause-coeffs_len c =
+    let w = c.loop-axis.invariant in
+    (w.length-xs ∙ c.requires.coeffs_len.0, omega (arith, w.length-ss, c.requires.coeffs_len.1))
+
+pub loop-axis-preserved : goal.loop-axis-preserved
+loop-axis-preserved c =
+    axes-step nan _ _ _ c.loop-axis.invariant (rw ((let axes' : length (take c.args.count c.args.dims) ≡ c.args.count = axes-are c.args.count c.args.dims (omega (arith, c.well_formed)) c.requires.usable.0 in axes')) c.loop-axis-test.true) c.solve_axis.ensures.coeffs_after c.solve_axis.ensures.scratch_after
+
+pub shape_of-coeffs : goal.shape_of-coeffs
+shape_of-coeffs c = c.loop-axis.invariant.length-xs
+
+pub shape_of-scratch : goal.shape_of-scratch
+shape_of-scratch c = c.loop-axis.invariant.length-ss
+
+pub returns-clause-coeffs_after : goal.returns-clause-coeffs_after
+returns-clause-coeffs_after c =
+    let all : length (take c.args.count c.args.dims) ≤ c.loop-axis.axis = rw ((let axes' : length (take c.args.count c.args.dims) ≡ c.args.count = axes-are c.args.count c.args.dims (omega (arith, c.well_formed)) c.requires.usable.0 in axes')) c.loop-axis-test.false in
+    axes-coefs nan _ _ _ c.loop-axis.invariant all
+
+pub returns-clause-scratch_after : goal.returns-clause-scratch_after
+returns-clause-scratch_after c =
+    let all : length (take c.args.count c.args.dims) ≤ c.loop-axis.axis = rw ((let axes' : length (take c.args.count c.args.dims) ≡ c.args.count = axes-are c.args.count c.args.dims (omega (arith, c.well_formed)) c.requires.usable.0 in axes')) c.loop-axis-test.false in
+    axes-scratch nan _ _ _ c.loop-axis.invariant all

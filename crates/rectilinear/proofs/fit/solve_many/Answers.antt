@@ -1,0 +1,66 @@
+use native.Mathlib.Omega.{arith}
+use borrow.Author.Rules.{rules}
+use lib.ListN.{length}
+use lib.Ieee.{binary64}
+use Rattle.shape.proofs.Lines.{first-cell-room}
+use Rattle.lanes.specs.Lanes.{zero_samples}
+use Rattle.lanes.proofs.Groups.{lines-room, uppers-hold, keep-room, axis-leaves}
+use Rattle.rectilinear_weights.specs.Records.{ghost_numbers}
+use Rattle.rectilinear_lines.specs.Rows.{coefficient, upper_number}
+use Rattle.rectilinear_lines.proofs.Rows.{looks-coefficient}
+use Rattle.rectilinear_sweeps.proofs.Sweeps.{upper-same}
+use Rattle.rectilinear.proofs.fit.solve_many.Goals as goal
+
+pub upper_numbers-requires : goal.upper_numbers-requires
+upper_numbers-requires c = let w = c.requires.lines_nonzero.1 in (w.four-points, omega (arith, w.upper-room, w.right-room))
+
+pub solve_in_place-requires-clause-in_bounds : goal.solve_in_place-requires-clause-in_bounds
+solve_in_place-requires-clause-in_bounds c =
+    let a = c.args in
+    let ks = a.grid.now in
+    let low = ghost_numbers a.low_ghost in
+    let high = ghost_numbers a.high_ghost in
+    let pos = c.requires.lines_nonzero.0 in
+    let w = c.requires.lines_nonzero.1 in
+    let whole = c.requires.s_value in (w.four-points, w.stride-pos, whole, lines-room w pos whole)
+
+pub solve_in_place-requires-clause-uppers : goal.solve_in_place-requires-clause-uppers
+solve_in_place-requires-clause-uppers c =
+    let a = c.args in
+    let ks = a.grid.now in
+    let low = ghost_numbers a.low_ghost in
+    let high = ghost_numbers a.high_ghost in
+    let pos = c.requires.lines_nonzero.0 in
+    let w = c.requires.lines_nonzero.1 in
+    let whole = c.requires.s_value in uppers-hold (upper_number binary64 ks low high) (length ks) a.scratch.now _ (upper-same binary64 ks low high zero_samples) c.upper_numbers.ensures (omega (arith, w.upper-room, w.right-room))
+
+pub first_cell_of-base-requires : goal.first_cell_of-base-requires
+first_cell_of-base-requires c =
+    first-cell-room c.requires.lines_nonzero.1 (let pos = c.requires.lines_nonzero.0 in omega arith)
+
+pub keep_line-requires-clause-n_in_bounds : goal.keep_line-requires-clause-n_in_bounds
+keep_line-requires-clause-n_in_bounds c =
+    let a = c.args in
+    let ks = a.grid.now in
+    let low = ghost_numbers a.low_ghost in
+    let high = ghost_numbers a.high_ghost in
+    let pos = c.requires.lines_nonzero.0 in (keep-room (coefficient binary64 ks low high) (length ks) a.s a.lines a.m _ _ a.coeffs.now a.scratch.now _ _ (upper_number binary64 ks low high zero_samples) c.requires.lines_nonzero.1
+    c.first_cell_of-base.ensures c.solve_in_place.ensures c.upper_numbers.ensures (omega arith)).0
+
+pub keep_line-requires-clause-n_in_bounds_2 : goal.keep_line-requires-clause-n_in_bounds_2
+keep_line-requires-clause-n_in_bounds_2 c =
+    let a = c.args in
+    let ks = a.grid.now in
+    let low = ghost_numbers a.low_ghost in
+    let high = ghost_numbers a.high_ghost in
+    let pos = c.requires.lines_nonzero.0 in (keep-room (coefficient binary64 ks low high) (length ks) a.s a.lines a.m _ _ a.coeffs.now a.scratch.now _ _ (upper_number binary64 ks low high zero_samples) c.requires.lines_nonzero.1
+    c.first_cell_of-base.ensures c.solve_in_place.ensures c.upper_numbers.ensures (omega arith)).1
+
+pub returns-clause-scratch_after : goal.returns-clause-scratch_after
+returns-clause-scratch_after c =
+    let a = c.args in
+    let ks = a.grid.now in
+    let low = ghost_numbers a.low_ghost in
+    let high = ghost_numbers a.high_ghost in
+    let w = c.requires.lines_nonzero.1 in axis-leaves (upper_number binary64 ks low high) (coefficient binary64 ks low high) (length ks) a.s a.lines a.m a.coeffs.now a.scratch.now w c.requires.lines_nonzero.0 (looks-coefficient binary64 ks low high w.four-points)
+          _ _ _ _ (upper-same binary64 ks low high zero_samples) c.first_cell_of-base.ensures c.upper_numbers.ensures c.solve_in_place.ensures c.keep_line.ensures

@@ -1,0 +1,32 @@
+use lib.ListN.{length}
+use lib.Ieee.{binary64, nan}
+use borrow.Author.Rules.{rules}
+use Rattle.shape.proofs.Lines.{first-cell-room, line-room, nth-coefs, nth-scratch}
+use Rattle.rectilinear_weights.specs.Records.{ghost_numbers}
+use Rattle.rectilinear_lines.specs.Rows.{coefficient, upper_number}
+use Rattle.rectilinear.proofs.fit.solve_nth.Goals as goal
+
+pub first_cell_of-base-requires : goal.first_cell_of-base-requires
+first_cell_of-base-requires c = let p = c.requires in first-cell-room p.1 p.0
+
+pub solve_checked-requires-clause-in_bounds : goal.solve_checked-requires-clause-in_bounds
+solve_checked-requires-clause-in_bounds c =
+    let p = c.requires in (line-room p.1 p.0 c.first_cell_of-base.ensures).0
+
+pub solve_checked-requires-clause-grid_len_bound : goal.solve_checked-requires-clause-grid_len_bound
+solve_checked-requires-clause-grid_len_bound c =
+    let p = c.requires in (line-room p.1 p.0 c.first_cell_of-base.ensures).1
+
+pub returns-clause-coeffs_after : goal.returns-clause-coeffs_after
+returns-clause-coeffs_after c =
+    let a = c.args in
+    let ks = a.grid.now in
+    let upper = upper_number binary64 ks (ghost_numbers a.low_ghost) (ghost_numbers a.high_ghost) in
+    let solve = coefficient binary64 ks (ghost_numbers a.low_ghost) (ghost_numbers a.high_ghost) in nth-coefs nan upper solve (length ks) a.s a.m a.l _ a.coeffs.now a.scratch.now c.first_cell_of-base.ensures c.solve_checked.ensures.coeffs_after
+
+pub returns-clause-scratch_after : goal.returns-clause-scratch_after
+returns-clause-scratch_after c =
+    let a = c.args in
+    let ks = a.grid.now in
+    let upper = upper_number binary64 ks (ghost_numbers a.low_ghost) (ghost_numbers a.high_ghost) in
+    let solve = coefficient binary64 ks (ghost_numbers a.low_ghost) (ghost_numbers a.high_ghost) in nth-scratch nan upper solve (length ks) a.s a.m a.l _ a.coeffs.now a.scratch.now c.first_cell_of-base.ensures c.solve_checked.ensures.scratch_after

@@ -1,0 +1,43 @@
+use mathlib.Core.Path.{refl}
+use Prim.Native.Nat.{◌+◌, ◌*◌, ◌-◌, ◌≤◌}
+use native.Mathlib.Nat.{mul-le-mul_left, mul-add}
+use native.Mathlib.Omega.{arith}
+use lib.Ieee.{binary64}
+use Rattle.evaluation.proofs.Rows.{AxesSoFar, axes-begin, axes-next, axes-done}
+use Rattle.evaluation.proofs.Stages.{axis-room}
+use Rattle.rectilinear_blocks.specs.Block.{slopes_for}
+use Rattle.rectilinear_blocks.specs.Records.{map_of}
+use Rattle.rectilinear_blocks.proofs.Stages.{counted-on}
+use Rattle.rectilinear_blocks.proofs.rows.slope_axes.Goals as goal
+
+pub loop-a-init : goal.loop-a-init
+loop-a-init c = axes-begin _ _ _ _ _ _
+
+pub slope_next-requires-clause-accepted : goal.slope_next-requires-clause-accepted
+slope_next-requires-clause-accepted c =
+    let h = c.loop-a-test.true in
+    let p = c.requires.placed_to in
+    let a = c.loop-a.a in
+    let l = axis-room c.requires.accepted.1 _ _ h p.firsts.most in
+    let behind = mul-le-mul_left c.args.s.cap (let q : 4 + a + 1 ≤ 4 + c.args.map.count = omega (arith, h) in q) in
+    (c.requires.accepted.0, h, counted-on (map_of c.args.map) _ _ _ _ c.requires.accepted.0.1.shape.at-most-four _ h _ (λ k g. p.kept _ k h g))
+
+pub slope_next-requires-clause-good_in_bounds : goal.slope_next-requires-clause-good_in_bounds
+slope_next-requires-clause-good_in_bounds c =
+    let h = c.loop-a-test.true in
+    let p = c.requires.placed_to in
+    let a = c.loop-a.a in
+    let l = axis-room c.requires.accepted.1 _ _ h p.firsts.most in
+    let behind = mul-le-mul_left c.args.s.cap (let q : 4 + a + 1 ≤ 4 + c.args.map.count = omega (arith, h) in q) in
+    (l.coordinates, l.in-spots, omega (arith, behind, p.firsts.most, c.requires.accepted.1.block, c.requires.accepted.2, c.loop-a.invariant.length-rows))
+
+pub loop-a-preserved : goal.loop-a-preserved
+loop-a-preserved c =
+    let p = c.slope_next in
+    axes-next _ _ _ _ _ _ c.loop-a.invariant c.loop-a-test.true (omega (arith, c.requires.placed_to.firsts.most, c.requires.accepted.1.block)) (mul-add c.args.s.cap 4 _) (λ k h. refl) p.ensures p.auto.work
+
+pub shape_of-work : goal.shape_of-work
+shape_of-work c = c.loop-a.invariant.length-rows
+
+pub returns : goal.returns
+returns c = axes-done _ _ _ _ _ _ c.loop-a.invariant c.loop-a-test.false

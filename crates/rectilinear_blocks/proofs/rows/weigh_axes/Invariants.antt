@@ -1,0 +1,16 @@
+use mathlib.Core.Path.{refl}
+use Prim.Native.Nat.{◌-◌}
+use native.Mathlib.Omega.{arith}
+use lib.Ieee.{binary64}
+use Rattle.evaluation.proofs.Rows.{AxesSoFar, axes-begin, axes-next, axes-done}
+use Rattle.evaluation.proofs.Stages.{axis-room, room_as}
+use Rattle.rectilinear_blocks.specs.Block.{weights_for}
+use Rattle.rectilinear_blocks.specs.Records.{map_of}
+use Rattle.rectilinear_blocks.proofs.Stages.{counted-on}
+use Rattle.rectilinear_blocks.proofs.rows.weigh_axes.Given as goal
+
+abbrev pub invariant-loop-a : goal.invariant-loop-a
+invariant-loop-a l = AxesSoFar (weights_for binary64 (map_of l.map) l.grid l.xs l.s.n l.s.from) l.s.cap 0 l.good l.map.count l.initial.work l.work l.a
+
+abbrev pub decreases-loop-a : goal.decreases-loop-a
+decreases-loop-a l = l.map.count - l.a

@@ -1,0 +1,5 @@
+use borrow.Author.Rules.{rules}
+use Rattle.rectilinear_map.proofs.build.blank.Goals as goal
+
+pub returns : goal.returns
+returns c = rw (c.no_ghosts-high.ensures, c.no_ghosts-low.ensures)

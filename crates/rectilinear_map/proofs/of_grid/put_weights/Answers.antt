@@ -1,0 +1,38 @@
+use mathlib.Core.Path.{◌≡◌}
+use Prim.Native.Nat.{◌+◌, ◌-◌}
+use native.Mathlib.Omega.{arith}
+use lib.Ieee.{binary64}
+use Rattle.evaluation.specs.Axes.{query}
+use Rattle.evaluation.proofs.Rows.{RowsSoFar, rows-begin, rows_next, rows-done}
+use Rattle.rectilinear_blocks.specs.Eval.{weights_on}
+use Rattle.rectilinear_map.specs.Map.{of_grid}
+use Rattle.rectilinear_map.proofs.of_grid.put_weights.Goals as goal
+
+pub loop-a-init : goal.loop-a-init
+loop-a-init c = rows-begin _ _ _ _
+
+pub axis_weights-requires-clause-usable : goal.axis_weights-requires-clause-usable
+axis_weights-requires-clause-usable c =
+    let p = c.requires.usable in
+    let h = c.loop-a-test.true in
+    (p.0, p.1, h, p.2, p.3)
+
+pub axis_weights-requires-clause-a_value : goal.axis_weights-requires-clause-a_value
+axis_weights-requires-clause-a_value c =
+    let p = c.requires.usable in
+    let h = c.loop-a-test.true in
+    c.requires.by_index _ h
+
+pub put_row-requires : goal.put_row-requires
+put_row-requires c = omega (arith, c.loop-a.invariant.length-rows, c.loop-a-test.true, c.requires.usable.4)
+
+pub loop-a-preserved : goal.loop-a-preserved
+loop-a-preserved c =
+    let here : 0 + c.loop-a.a ≡ c.loop-a.a = omega arith in
+    rows_next _ _ _ _ c.loop-a.invariant c.loop-a-test.true (omega (arith, c.requires.usable.4)) (omega (arith, c.axis_weights.type_inv)) c.axis_weights.ensures (rw here c.put_row.ensures)
+
+pub shape_of-work : goal.shape_of-work
+shape_of-work c = c.loop-a.invariant.length-rows
+
+pub returns : goal.returns
+returns c = rows-done _ _ _ _ c.loop-a.invariant c.loop-a-test.false

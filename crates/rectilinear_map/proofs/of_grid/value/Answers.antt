@@ -1,0 +1,42 @@
+use native.Mathlib.Omega.{arith}
+use lib.ListN.{length}
+use lib.Ieee.{binary64}
+use borrow.Author.Rules.{rules}
+use Rattle.shape.specs.declared.answers.Refusal.TheVariants.{DimensionMismatch}
+use Rattle.evaluation.proofs.Outcomes.{one-refused, one-checks, one-length, one-answered}
+use Rattle.rectilinear_blocks.specs.Eval.{map_answer}
+use Rattle.rectilinear_blocks.specs.Sound.{Sound}
+use Rattle.rectilinear_map.proofs.Checks.{map-numbered, told-sound}
+use Rattle.rectilinear_map.proofs.OwnGhosts.{made_one}
+use Rattle.rectilinear_map.proofs.of_grid.value.Goals as goal
+
+pub returns-in-Refused : goal.returns-in-Refused
+unfolding map_answer
+returns-in-Refused c =
+    let a = c.args in
+    made_one binary64 a.count a.dims a.grid.now a.linear a.coeffs.now (omega (arith, c.well_formed)) a.x.now
+    (one-refused _ a.x.now c.in-Refused.refusal (one-checks _ a.x.now c.in-Refused.is c.check_map.ensures))
+
+pub returns-then-x-count : goal.returns-then-x-count
+unfolding map_answer
+returns-then-x-count c =
+    let a = c.args in
+    made_one binary64 a.count a.dims a.grid.now a.linear a.coeffs.now (omega (arith, c.well_formed)) a.x.now
+    (one-refused _ a.x.now DimensionMismatch (one-length _ a.x.now (map-numbered a.count a.dims a.grid.now (length a.coeffs.now)) c.in_default.is c.check_map.ensures c.if-x-count.true))
+
+pub strides_of-strides-requires : goal.strides_of-strides-requires
+strides_of-strides-requires c = ((let sound' : let a = c.args in Sound a.count a.dims a.grid.now (length a.coeffs.now) = let a = c.args in
+    told-sound a.count a.dims a.grid.now (length a.coeffs.now) (omega (arith, c.well_formed)) c.in_default.is c.check_map.ensures in sound')).gridded.shape
+
+pub value_by_knots-requires : goal.value_by_knots-requires
+value_by_knots-requires c =
+    let g = (let sound' : let a = c.args in Sound a.count a.dims a.grid.now (length a.coeffs.now) = let a = c.args in
+    told-sound a.count a.dims a.grid.now (length a.coeffs.now) (omega (arith, c.well_formed)) c.in_default.is c.check_map.ensures in sound') in
+    ((record { shape = g.gridded.shape; four = omega (arith, c.well_formed); strides-are = c.strides_of-strides.ensures }, g.gridded), g.sized, omega (arith, c.if-x-count.false))
+
+pub returns : goal.returns
+unfolding map_answer
+returns c =
+    let a = c.args in
+    made_one binary64 a.count a.dims a.grid.now a.linear a.coeffs.now (omega (arith, c.well_formed)) a.x.now
+    (one-answered _ a.x.now (map-numbered a.count a.dims a.grid.now (length a.coeffs.now)) c.in_default.is c.check_map.ensures c.if-x-count.false c.value_by_knots.ensures)

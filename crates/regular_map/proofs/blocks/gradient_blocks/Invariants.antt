@@ -1,0 +1,18 @@
+use mathlib.Core.Path.{◌≡◌, refl, ◌∙◌}
+use Prim.Native.Nat.{◌-◌}
+use native.Mathlib.Omega.{arith}
+use lib.ListN.{length}
+use lib.Ieee.{binary64}
+use Rattle.evaluation.specs.Batch.{bad_at, gradient_step}
+use Rattle.evaluation.specs.Spline.{Spline}
+use Rattle.evaluation.proofs.Batches.{Running, running-start, block-next, block-stop, running-done}
+use Rattle.regular_blocks.specs.Checks.{regular}
+use Rattle.regular_blocks.specs.Records.{map_of}
+use Rattle.regular_map.proofs.blocks.gradient_blocks.Given as goal
+
+abbrev pub invariant-loop-from : goal.invariant-loop-from
+invariant-loop-from l = let s : Spline = regular binary64 (map_of l.grid) l.coeffs in
+    Running (bad_at s l.xs l.n) (gradient_step s l.xs l.n) l.n l.initial.out l.out l.from × ((length l.spots ≡ length l.initial.spots) × (length l.work ≡ length l.initial.work))
+
+abbrev pub decreases-loop-from : goal.decreases-loop-from
+decreases-loop-from l = l.n - l.from

@@ -1,0 +1,9 @@
+use mathlib.Core.Path.{refl}
+use borrow.Author.Rules.{rules}
+use Rattle.regular_map.specs.Map.{made}
+use Rattle.regular_map.proofs.build.accepted.Goals as goal
+
+pub returns : goal.returns
+unfolding made
+returns c =
+    (refl, rw (c.used_floats-steps.ensures, c.used_floats-starts.ensures, c.used_lens-dims.ensures))

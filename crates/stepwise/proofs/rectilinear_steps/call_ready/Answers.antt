@@ -1,0 +1,53 @@
+use mathlib.Core.Path.{refl}
+use native.Mathlib.Omega.{arith}
+use lib.ListN.{length, take}
+use lib.Ieee.{binary64, nan}
+use borrow.Author.Rules.{rules}
+use Rattle.knots.specs.Checks.{grid_check, knots_check}
+use Rattle.rectilinear.specs.Fit.{solve, upper}
+use Rattle.ledger.proofs.DueBytes.{bumped-is}
+use Rattle.ledger.proofs.Stages.{call-ready}
+use Rattle.stepwise.proofs.OneLine.{one-coefs, one-scratch}
+use Rattle.stepwise.proofs.Runs.{called-accepted, not-due, line-due}
+use Rattle.stepwise.proofs.Rectilinear.{grid-positive, knots-positive, joined_is}
+use Rattle.stepwise.proofs.rectilinear_steps.call_ready.Goals as goal
+
+pub find_due-requires : goal.find_due-requires
+find_due-requires c =
+    let a = c.args in
+    let p = call-ready a.count a.dims (grid_check (take a.count a.dims) a.grid.now) (knots_check (take a.count a.dims) a.grid.now) (grid-positive (take a.count a.dims) a.grid.now) (knots-positive (take a.count a.dims) a.grid.now) (length a.coeffs.now) (length a.ledger.now) (length a.scratch.now) (omega (arith, c.well_formed)) c.requires in
+    (p.shape, p.ledger-size)
+
+pub solve_found-requires-clause-axis_lt_count : goal.solve_found-requires-clause-axis_lt_count
+solve_found-requires-clause-axis_lt_count c =
+    let a = c.args in
+    let p = line-due a.count a.dims (grid_check (take a.count a.dims) a.grid.now) (knots_check (take a.count a.dims) a.grid.now) (grid-positive (take a.count a.dims) a.grid.now) (knots-positive (take a.count a.dims) a.grid.now) (record { axis = a.axis; line = a.line; scratch = a.scratch.now }) (record { coefs = a.coeffs.now; ledger = a.ledger.now }) c.requires (omega (arith, c.well_formed)) c.in-At.is c.find_due.ensures in
+    (p.is-axis, p.ready.shape, joined_is (take a.count a.dims) a.grid.now p.ready.ready.grid-passed, p.numbers.the-points)
+
+pub solve_found-requires-clause-line_fits : goal.solve_found-requires-clause-line_fits
+solve_found-requires-clause-line_fits c =
+    let a = c.args in
+    let p = line-due a.count a.dims (grid_check (take a.count a.dims) a.grid.now) (knots_check (take a.count a.dims) a.grid.now) (grid-positive (take a.count a.dims) a.grid.now) (knots-positive (take a.count a.dims) a.grid.now) (record { axis = a.axis; line = a.line; scratch = a.scratch.now }) (record { coefs = a.coeffs.now; ledger = a.ledger.now }) c.requires (omega (arith, c.well_formed)) c.in-At.is c.find_due.ensures in
+    p.fits
+
+pub bump_line-requires : goal.bump_line-requires
+bump_line-requires c =
+    let a = c.args in
+    let p = line-due a.count a.dims (grid_check (take a.count a.dims) a.grid.now) (knots_check (take a.count a.dims) a.grid.now) (grid-positive (take a.count a.dims) a.grid.now) (knots-positive (take a.count a.dims) a.grid.now) (record { axis = a.axis; line = a.line; scratch = a.scratch.now }) (record { coefs = a.coeffs.now; ledger = a.ledger.now }) c.requires (omega (arith, c.well_formed)) c.in-At.is c.find_due.ensures in
+    (omega (arith, p.is-axis, p.ready.shape.at-most-four), p.inside, p.bytes)
+
+pub returns-in-At : goal.returns-in-At
+returns-in-At c =
+    let a = c.args in
+    let p = line-due a.count a.dims (grid_check (take a.count a.dims) a.grid.now) (knots_check (take a.count a.dims) a.grid.now) (grid-positive (take a.count a.dims) a.grid.now) (knots-positive (take a.count a.dims) a.grid.now) (record { axis = a.axis; line = a.line; scratch = a.scratch.now }) (record { coefs = a.coeffs.now; ledger = a.ledger.now }) c.requires (omega (arith, c.well_formed)) c.in-At.is c.find_due.ensures in
+    let u = upper binary64 a.grid.now (take a.count a.dims) in
+    let v = solve binary64 a.grid.now (take a.count a.dims) in
+    called-accepted p.accepted
+    (one-coefs nan u v p.numbers refl refl a.coeffs.now a.scratch.now c.solve_found.ensures.coeffs_after)
+    (bumped-is (take a.count a.dims) a.axis a.line a.ledger.now p.numbers c.bump_line.ensures)
+    (one-scratch nan u v p.numbers refl refl a.coeffs.now a.scratch.now c.solve_found.ensures.scratch_after)
+
+pub returns-in-Refused : goal.returns-in-Refused
+returns-in-Refused c =
+    let a = c.args in
+    not-due a.count a.dims (grid_check (take a.count a.dims) a.grid.now) (knots_check (take a.count a.dims) a.grid.now) (grid-positive (take a.count a.dims) a.grid.now) (knots-positive (take a.count a.dims) a.grid.now) (record { axis = a.axis; line = a.line; scratch = a.scratch.now }) (record { coefs = a.coeffs.now; ledger = a.ledger.now }) c.requires c.in-Refused.is c.find_due.ensures

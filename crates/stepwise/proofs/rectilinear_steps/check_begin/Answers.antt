@@ -1,0 +1,24 @@
+use native.Mathlib.Omega.{arith}
+use lib.ListN.{take}
+use borrow.Author.Rules.{rules}
+use Rattle.shape.proofs.Accepted.{usable}
+use Rattle.knots.specs.Checks.{grid_check, knots_check}
+use Rattle.ledger.proofs.Stages.{is-accepted, ready-passed, begin-ready, not-ready, then-last}
+use Rattle.stepwise.proofs.Rectilinear.{grid-positive, knots-positive}
+use Rattle.stepwise.proofs.rectilinear_steps.check_begin.Goals as goal
+
+pub returns-in-Refused : goal.returns-in-Refused
+returns-in-Refused c =
+    let a = c.args in
+    not-ready a.count a.dims (grid_check (take a.count a.dims) a.grid.now) (knots_check (take a.count a.dims) a.grid.now) a.coeffs a.ledger (grid-positive (take a.count a.dims) a.grid.now) (knots-positive (take a.count a.dims) a.grid.now) _ (begin-ready a.count a.dims (grid_check (take a.count a.dims) a.grid.now) (knots_check (take a.count a.dims) a.grid.now) a.vals a.coeffs a.ledger a.scratch) c.check_ready.ensures c.in-Refused.is
+
+pub check_lent-requires : goal.check_lent-requires
+check_lent-requires c =
+    let a = c.args in
+    let p = ready-passed a.count a.dims (grid_check (take a.count a.dims) a.grid.now) (knots_check (take a.count a.dims) a.grid.now) a.coeffs a.ledger (grid-positive (take a.count a.dims) a.grid.now) (knots-positive (take a.count a.dims) a.grid.now) (is-accepted c.in_default.is c.check_ready.ensures) in
+    usable a.count a.dims (omega (arith, c.well_formed)) p.0.shape-passed
+
+pub returns : goal.returns
+returns c =
+    let a = c.args in
+    then-last a.count a.dims (grid_check (take a.count a.dims) a.grid.now) (knots_check (take a.count a.dims) a.grid.now) a.coeffs a.ledger (grid-positive (take a.count a.dims) a.grid.now) (knots-positive (take a.count a.dims) a.grid.now) _ (begin-ready a.count a.dims (grid_check (take a.count a.dims) a.grid.now) (knots_check (take a.count a.dims) a.grid.now) a.vals a.coeffs a.ledger a.scratch) c.check_ready.ensures c.in_default.is c.check_lent.ensures

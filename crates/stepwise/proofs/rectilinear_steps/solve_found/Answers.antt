@@ -1,0 +1,52 @@
+use mathlib.Core.Path.{sym, ◌∙◌}
+use native.Mathlib.Omega.{arith}
+use lib.ListN.{take}
+use lib.Ieee.{binary64, nan}
+use borrow.Author.Rules.{rules}
+use Rattle.shape.specs.Cells.{line}
+use Rattle.shape.proofs.Accepted.{points-are}
+use Rattle.rectilinear.proofs.Axis.{knots-are, knots-long, upper_is, solve-is}
+use Rattle.stepwise.proofs.OneLine.{knots-fit, knots-coefs, knots-scratch}
+use Rattle.stepwise.proofs.rectilinear_steps.solve_found.Goals as goal
+
+pub low_ghost_coeffs-low_ghost-requires : goal.low_ghost_coeffs-low_ghost-requires
+low_ghost_coeffs-low_ghost-requires c =
+    let a = c.args in
+    knots-long a.count a.dims (omega (arith, c.well_formed)) c.requires.axis_lt_count.1 a.axis c.requires.axis_lt_count.0 a.grid.now c.requires.axis_lt_count.2 c.axis_knots-knots.ensures
+
+pub high_ghost_coeffs-high_ghost-requires : goal.high_ghost_coeffs-high_ghost-requires
+high_ghost_coeffs-high_ghost-requires c =
+    let a = c.args in
+    knots-long a.count a.dims (omega (arith, c.well_formed)) c.requires.axis_lt_count.1 a.axis c.requires.axis_lt_count.0 a.grid.now c.requires.axis_lt_count.2 c.axis_knots-knots.ensures
+
+pub solve_checked-requires-clause-in_bounds : goal.solve_checked-requires-clause-in_bounds
+solve_checked-requires-clause-in_bounds c =
+    let a = c.args in
+    let n = knots-are a.count a.dims (omega (arith, c.well_formed)) c.requires.axis_lt_count.1 a.axis c.requires.axis_lt_count.0 a.grid.now c.requires.axis_lt_count.2 c.axis_knots-knots.ensures in (knots-fit a.found (n ∙ sym (points-are a.count a.dims (omega (arith, c.well_formed)) c.requires.axis_lt_count.1 a.axis c.requires.axis_lt_count.0) ∙ sym c.requires.axis_lt_count.3) c.requires.line_fits).0
+
+pub solve_checked-requires-clause-grid_len_bound : goal.solve_checked-requires-clause-grid_len_bound
+solve_checked-requires-clause-grid_len_bound c =
+    let a = c.args in
+    let n = knots-are a.count a.dims (omega (arith, c.well_formed)) c.requires.axis_lt_count.1 a.axis c.requires.axis_lt_count.0 a.grid.now c.requires.axis_lt_count.2 c.axis_knots-knots.ensures in (knots-fit a.found (n ∙ sym (points-are a.count a.dims (omega (arith, c.well_formed)) c.requires.axis_lt_count.1 a.axis c.requires.axis_lt_count.0) ∙ sym c.requires.axis_lt_count.3) c.requires.line_fits).1
+
+pub returns-clause-coeffs_after : goal.returns-clause-coeffs_after
+returns-clause-coeffs_after c =
+    let a = c.args in
+    let dims = take a.count a.dims in
+    let n = knots-are a.count a.dims (omega (arith, c.well_formed)) c.requires.axis_lt_count.1 a.axis c.requires.axis_lt_count.0 a.grid.now c.requires.axis_lt_count.2 c.axis_knots-knots.ensures in
+    let same = n ∙ sym (points-are a.count a.dims (omega (arith, c.well_formed)) c.requires.axis_lt_count.1 a.axis c.requires.axis_lt_count.0) ∙ sym c.requires.axis_lt_count.3 in
+    let eu = upper_is binary64 a.grid.now dims a.axis c.axis_knots-knots.ensures c.low_ghost_coeffs-low_ghost.ensures c.high_ghost_coeffs-high_ghost.ensures in
+    let ev = solve-is binary64 a.grid.now dims a.axis c.axis_knots-knots.ensures c.low_ghost_coeffs-low_ghost.ensures c.high_ghost_coeffs-high_ghost.ensures in
+    let y = line nan a.found.base a.found.stride a.coeffs.now in
+    knots-coefs a.found same eu ev y a.coeffs.now c.solve_checked.ensures.coeffs_after
+
+pub returns-clause-scratch_after : goal.returns-clause-scratch_after
+returns-clause-scratch_after c =
+    let a = c.args in
+    let dims = take a.count a.dims in
+    let n = knots-are a.count a.dims (omega (arith, c.well_formed)) c.requires.axis_lt_count.1 a.axis c.requires.axis_lt_count.0 a.grid.now c.requires.axis_lt_count.2 c.axis_knots-knots.ensures in
+    let same = n ∙ sym (points-are a.count a.dims (omega (arith, c.well_formed)) c.requires.axis_lt_count.1 a.axis c.requires.axis_lt_count.0) ∙ sym c.requires.axis_lt_count.3 in
+    let eu = upper_is binary64 a.grid.now dims a.axis c.axis_knots-knots.ensures c.low_ghost_coeffs-low_ghost.ensures c.high_ghost_coeffs-high_ghost.ensures in
+    let ev = solve-is binary64 a.grid.now dims a.axis c.axis_knots-knots.ensures c.low_ghost_coeffs-low_ghost.ensures c.high_ghost_coeffs-high_ghost.ensures in
+    let y = line nan a.found.base a.found.stride a.coeffs.now in
+    knots-scratch a.found same eu ev y a.scratch.now c.solve_checked.ensures.scratch_after

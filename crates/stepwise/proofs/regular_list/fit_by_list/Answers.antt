@@ -1,0 +1,42 @@
+use mathlib.Core.Path.{sym, ◌∙◌}
+use mathlib.Core.List.{[]}
+use native.Mathlib.Omega.{arith}
+use lib.ListN.{length}
+use lib.Ieee.{binary64}
+use borrow.Author.Rules.{rules}
+use Rattle.book.proofs.Answers.{begin-passed}
+use Rattle.ledger.proofs.Stages.{is-accepted, two-agree}
+use Rattle.stepwise.proofs.Runs.{ran-not-begun, ran-not-listed, ran-accepted, begun-calls}
+use Rattle.stepwise.proofs.Regular.{regular-order-never-shows}
+use Rattle.stepwise.proofs.regular_list.fit_by_list.Goals as goal
+
+pub returns-in-Refused : goal.returns-in-Refused
+returns-in-Refused c = ran-not-begun tt tt c.check_begin.ensures c.in-Refused.is
+
+pub returns-in-Refused-check_lists : goal.returns-in-Refused-check_lists
+returns-in-Refused-check_lists c =
+    ran-not-listed tt tt c.check_begin.ensures c.in_default.is c.check_lists.ensures c.in-Refused-check_lists.is
+
+pub start-requires : goal.start-requires
+start-requires c =
+    let a = c.args in
+    let p = begin-passed a.count a.dims [] [] tt tt (length a.vals.now) (length a.coeffs.now) (length a.ledger.now) (length a.scratch.now) (is-accepted c.in_default.is c.check_begin.ensures) in
+    p.samples-size ∙ sym p.coefs-size
+
+pub run_list-requires-clause-lines_len : goal.run_list-requires-clause-lines_len
+run_list-requires-clause-lines_len c =
+    let p = two-agree _ _ _ (is-accepted c.in_default-check_lists.is c.check_lists.ensures) in
+    let a = c.args in
+    (p.0, p.1)
+
+pub run_list-requires-clause-scratch_value : goal.run_list-requires-clause-scratch_value
+run_list-requires-clause-scratch_value c =
+    let p = two-agree _ _ _ (is-accepted c.in_default-check_lists.is c.check_lists.ensures) in
+    let a = c.args in
+    begun-calls a.count a.dims [] [] tt tt _ _ _ (is-accepted c.in_default.is c.check_begin.ensures) c.start.ensures.0 c.start.ensures.1
+
+pub returns : goal.returns
+returns c =
+    let a = c.args in
+    ran-accepted tt tt c.check_begin.ensures c.in_default.is c.check_lists.ensures c.in_default-check_lists.is c.start.ensures.0 c.start.ensures.1 c.run_list.ensures
+    (regular-order-never-shows binary64 a.count a.dims (omega (arith, c.well_formed)) a.vals.now _ _ _ (is-accepted c.in_default.is c.check_begin.ensures) _)

@@ -1,0 +1,21 @@
+use mathlib.Core.Path.{sym, ◌∙◌}
+use mathlib.Core.List.{[]}
+use lib.ListN.{length}
+use borrow.Author.Rules.{rules}
+use Rattle.book.proofs.Answers.{begin-passed}
+use Rattle.ledger.proofs.Stages.{is-accepted}
+use Rattle.stepwise.proofs.Runs.{begun-refused, begun-accepted}
+use Rattle.stepwise.proofs.regular_steps.begin_regular_by_len.Goals as goal
+
+pub returns-in-Refused : goal.returns-in-Refused
+returns-in-Refused c = begun-refused c.in-Refused.is c.check_begin.ensures
+
+pub start-requires : goal.start-requires
+start-requires c =
+    let a = c.args in
+    let p = begin-passed a.count a.dims [] [] tt tt (length a.vals.now) (length a.coeffs.now) (length a.ledger.now) a.scratch (is-accepted c.in_default.is c.check_begin.ensures) in
+    p.samples-size ∙ sym p.coefs-size
+
+pub returns : goal.returns
+returns c =
+    begun-accepted tt tt c.in_default.is c.check_begin.ensures c.start.ensures.0 c.start.ensures.1
