@@ -52,8 +52,7 @@ pub loop-from-preserved : goal.loop-from-preserved
 loop-from-preserved c =
     let w = c.loop-from.invariant in
     let p = c.values_block-good in
-    let k = p.auto.1.1.1.1.1 in
-    (block-next _ _ _ w.0 c.block_size-m.ensures.2 p.ensures k.1.1.0 c.if-good-m.false, (k.0 ∙ w.1.0, k.1.0 ∙ w.1.1))
+    (block-next _ _ _ w.0 c.block_size-m.ensures.2 p.ensures p.auto.out c.if-good-m.false, (p.auto.spots ∙ w.1.0, p.auto.work ∙ w.1.1))
 
 pub shape_of-spots : goal.shape_of-spots
 shape_of-spots c = c.loop-from.invariant.1.0

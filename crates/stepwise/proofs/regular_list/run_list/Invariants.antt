@@ -9,8 +9,8 @@ use Rattle.stepwise.proofs.Runs.{RunTo, run-start, run_step, run-done}
 use Rattle.stepwise.proofs.regular_list.run_list.Given as goal
 
 abbrev pub invariant-loop-i : goal.invariant-loop-i
-invariant-loop-i l = RunTo l.count l.dims [] [] nan (upper binary64 (take l.count l.dims)) (solve binary64 (take l.count l.dims)) l.axes l.lines (record { coefs = l.initial.coeffs; l.ledger = l.initial.ledger }) l.initial.scratch l.initial.answers
-    (record { coefs = l.coeffs; l.ledger = l.ledger }) l.scratch l.answers l.i
+invariant-loop-i l = RunTo l.count l.dims [] [] nan (upper binary64 (take l.count l.dims)) (solve binary64 (take l.count l.dims)) l.axes l.lines (record { coefs = l.initial.coeffs; ledger = l.initial.ledger }) l.initial.scratch l.initial.answers
+    (record { coefs = l.coeffs; ledger = l.ledger }) l.scratch l.answers l.i
 
 abbrev pub decreases-loop-i : goal.decreases-loop-i
 decreases-loop-i l = l.i-end - l.i
