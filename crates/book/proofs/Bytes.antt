@@ -12,12 +12,11 @@ use borrow.Author.Tests.{ltb-true, ltb-false, lt-ltb, le-ltb, not-false}
 use Rattle.shape.specs.Shape.{size, points, NotEmpty, stride, lines, is_line, first, cell_at, line_at, place_at}
 use Rattle.shape.specs.Cells.{on_line, line, write_line}
 use Rattle.shape.specs.Checks.{first_refusal}
-use Rattle.shape.specs.Fit.{along}
 use Rattle.shape.proofs.Cells.{length-put, line-apart, line-in, line-out}
 use Rattle.shape.proofs.Radix.{stride-pos, line_at-cell_at, cell_at-line_at, place_at-lt, cell_at-lt}
 use Rattle.shape.specs.Below.{any_below}
 use Rattle.book.specs.LineCall.{byte_above, byte_below, one_more, bumped}
-use Rattle.book.specs.Due.{DueBytes, DueBytesMeans}
+use Rattle.book.specs.Due.{DueBytesMeans}
 use Rattle.book.specs.Order.{sum}
 use Rattle.shape.proofs.Below.{and_both, any_none, none-at, NoneYet, none-step, one_found}
 

@@ -1,3 +1,2 @@
 // Stepwise fitting and its book: definitions and laws. The functions come with the grids.
 #![tactic(auto)]
-

@@ -8,7 +8,6 @@ use lib.Dec.{ltb}
 use lib.ListN.{length, take, get_or, length-take}
 use lib.Seq.{get_or-take, ext_get_or}
 use borrow.Author.Tests.{ltb-true}
-use Rattle.shape.specs.Below.{sum_below}
 use Rattle.shape.specs.Shape.{stride}
 use Rattle.shape.proofs.Below.{sum_below-ext}
 use Rattle.evaluation.specs.Axes.{per_axis, first_over}

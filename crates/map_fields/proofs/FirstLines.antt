@@ -1,17 +1,17 @@
 -- Line 1, field by field. Assumes nothing.
 use mathlib.Core.Path.{◌≡◌, refl, sym, ap, subst, ◌∙◌}
-use mathlib.Core.Bool.{Bool, true, false, cond, ◌&&◌, ◌||◌, not}
+use mathlib.Core.Bool.{Bool, true, false, ◌||◌}
 use mathlib.Core.List.{List, [], ◌∷◌, ◌++◌}
-use mathlib.Core.Option.{Option, none, some}
-use Prim.Native.Nat.{ℕ, zero, suc, ◌+◌, ◌-◌, ◌≤◌, ◌<◌}
+use mathlib.Core.Option.{none}
+use Prim.Native.Nat.{ℕ, suc, ◌+◌, ◌-◌, ◌≤◌, ◌<◌}
 use native.Mathlib.Omega.{arith}
 use lib.Dec.{eqb}
 use lib.Arith.{lt_of_le-ne}
 use lib.ListN.{length, take, drop, set, get_or}
 use lib.Seq.{sets, sets-eq}
-use borrow.Author.Tests.{eq-eqb, ne_eqb, not-true, not-false}
+use borrow.Author.Tests.{eq-eqb, ne_eqb}
 use Rattle.map_fields.specs.Fields.{fields, before}
-use Rattle.map_fields.specs.Head.{decimal_in, or_zero, are_decimals, decimals_of, is_byte, is_head, head_in, Counted, Lettered, lengths_in, four_of, HeadRead}
+use Rattle.map_fields.specs.Head.{decimal_in, or_zero, are_decimals, decimals_of, is_byte, head_in, Counted, Lettered, lengths_in, four_of, HeadRead}
 use Rattle.map_fields.proofs.Finding.{field_at, last-field-at}
 
 -- an unreadable line 1

@@ -10,14 +10,13 @@ use native.Mathlib.Numerals.{add-one}
 use native.Mathlib.Omega.{arith}
 use lib.Dec.{T, eqb}
 use lib.Arith.{lt_of_le-ne}
-use lib.ListN.{length, take, drop, set, get_or, length-set, length-take, length-drop, drop_of_length-le}
+use lib.ListN.{length, take, drop, set, length-set, length-take, length-drop, drop_of_length-le}
 use lib.Seq.{take_all, take-suc-set}
 use lib.Ieee.{Float}
-use borrow.Author.Tests.{eq-eqb, ne_eqb, eqb-true, eqb-false}
+use borrow.Author.Tests.{eqb-true, eqb-false}
 use Rattle.float_text.specs.Digits.{number_from}
 use Rattle.float_text.specs.Bits.{bits_in, float_in, value_of}
-use Rattle.float_text.specs.declared.Pattern.{Pattern}
-use Rattle.float_text.specs.declared.Pattern.TheVariants.{Bits, Unreadable}
+use Rattle.float_text.specs.declared.Pattern.TheVariants.{Unreadable}
 use Rattle.float_text.specs.declared.Value.{Value}
 use Rattle.float_text.specs.declared.Value.TheVariants as Value
 use Rattle.map_fields.specs.Fields.{onto, fields, before, joined, floats_in, given, is_float, placed, lines, row_in, rest, RowRead}

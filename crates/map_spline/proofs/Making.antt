@@ -1,21 +1,19 @@
 -- The map of the first three lines is the one that the library builds. Assumes nothing.
 use mathlib.Core.Path.{◌≡◌, refl, sym, ap, ap₂, ◌∙◌}
-use mathlib.Core.Bool.{Bool, true, false, cond, not}
+use mathlib.Core.Bool.{Bool, true, false, cond}
 use mathlib.Core.List.{List}
-use Prim.Native.Nat.{ℕ, ◌+◌, ◌*◌, ◌≤◌, ◌<◌}
+use Prim.Native.Nat.{ℕ, ◌*◌, ◌≤◌}
 use native.Mathlib.Omega.{arith}
 use lib.Dec.{eqb}
-use lib.ListN.{length, take, drop, get_or, length-drop}
-use lib.Seq.{length-take-le, get_or-take, take-take}
-use lib.Ieee.{Float, binary64, nan}
+use lib.ListN.{length, take, drop, length-drop}
+use lib.Seq.{get_or-take, take-take}
+use lib.Ieee.{Float, binary64}
 use borrow.Author.Tests.{eq-eqb}
-use Rattle.shape.specs.Shape.{size, longest}
 use Rattle.shape.specs.Checks.{first_refusal, shape_checks, regular_fit_checks}
 use Rattle.shape.specs.Fit.{Fitted, FitLeaves}
 use Rattle.shape.specs.declared.answers.Answer.TheVariants.{Accepted}
 use Rattle.shape.proofs.Accepted.{usable-accepted, axes-are, storage-is, scratch-is}
-use Rattle.multibspline.specs.Numbers.{f0}
-use Rattle.knots.specs.Joined.{total, all_rise, knots_of}
+use Rattle.knots.specs.Joined.{total, all_rise}
 use Rattle.evaluation.specs.Axes.{in_use, query}
 use Rattle.evaluation.specs.Built.{BuiltFrom}
 use Rattle.regular.specs.Fit.{regular_fit}

@@ -1,7 +1,6 @@
 // The map of the map program: built from its first three lines, on either grid, and asked query by query.
 #![tactic(auto)]
 
-
 mod build;
 mod outside;
 mod replies;

@@ -1,28 +1,26 @@
 -- The first three lines. Assumes nothing.
-use mathlib.Core.Path.{◌≡◌, refl, sym, ap, ap₂, subst, ◌∙◌}
-use mathlib.Core.Logic.{◌⊎◌, inl, inr}
+use mathlib.Core.Path.{◌≡◌, refl, sym, ap, ◌∙◌}
 use mathlib.Core.Bool.{Bool, true, false, cond, ◌||◌}
 use mathlib.Core.List.{List, [], ◌∷◌, ◌++◌, append-nil}
-use mathlib.Core.Option.{Option, none, some}
-use Prim.Native.Nat.{ℕ, zero, suc, ◌+◌, ◌*◌, ◌-◌, ◌≤◌, ◌<◌, min}
+use mathlib.Core.Option.{none, some}
+use Prim.Native.Nat.{ℕ, ◌+◌, ◌*◌, ◌-◌, ◌≤◌, ◌<◌, min}
 use native.Mathlib.Nat.{pos_of_ne-zero, min-le_right}
 use native.Mathlib.Omega.{arith}
 use lib.Dec.{eqb, ltb}
-use lib.ListN.{length, take, drop, get_or, length-append, length-take}
-use lib.Seq.{sets, sets-eq, length-take-le, take-length}
+use lib.ListN.{length, take, drop, length-append, length-take}
 use lib.Ieee.{Float, binary64}
-use borrow.Author.Tests.{eq-eqb, ne_eqb, eqb-false, lt-ltb, le-ltb, ltb-true, ltb-false}
-use Rattle.shape.specs.Shape.{size, longest}
+use borrow.Author.Tests.{eq-eqb, ne_eqb, lt-ltb, le-ltb, ltb-true, ltb-false}
+use Rattle.shape.specs.Shape.{size}
 use Rattle.shape.specs.Checks.{first_refusal, any_short, limit_checks, shape_checks, most_points}
 use Rattle.shape.specs.Sizes.{coeff_storage_len}
 use Rattle.shape.specs.Usable.{Usable}
-use Rattle.shape.proofs.Accepted.{usable, usable-accepted, axes-are, storage-is, longest-le, usable-not-empty, points-are}
+use Rattle.shape.proofs.Accepted.{usable, axes-are, storage-is, longest-le, usable-not-empty, points-are}
 use Rattle.knots.specs.Joined.{total}
 use Rattle.knots.proofs.Totals.{total-le-size}
 use Rattle.regular_map.specs.Map as Regular
 use Rattle.rectilinear_map.specs.Map as Rectilinear
-use Rattle.map_fields.specs.Fields.{lines, fields, before, row_in, rest, given, RowRead}
-use Rattle.map_fields.specs.Head.{Head, head_in, lengths_in, HeadRead}
+use Rattle.map_fields.specs.Fields.{lines, fields, before, row_in, given, RowRead}
+use Rattle.map_fields.specs.Head.{Head, lengths_in, HeadRead}
 use Rattle.map_fields.specs.Records.{head_of}
 use Rattle.map_fields.specs.declared.head.FirstLine.{FirstLine}
 use Rattle.map_fields.proofs.Finding.{line_at}

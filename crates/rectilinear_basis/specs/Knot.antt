@@ -1,5 +1,5 @@
 -- The knots of an axis, continued past both ends by the end spacing. Assumes nothing.
-use Rattle.std.specs.Prelude.{cond, List, ℕ, ◌-◌, ltb, ℤ, pos, negsuc, length, Float}
+use Rattle.std.specs.Prelude.{cond, List, ◌-◌, ltb, ℤ, pos, negsuc, length, Float}
 use Rattle.std.specs.Float.{Format}
 use Rattle.std.specs.Float.Ieee.{add, sub, mul, of_int}
 use Rattle.multibspline.specs.Thomas.{at}

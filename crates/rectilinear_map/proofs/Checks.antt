@@ -1,14 +1,14 @@
 -- The checks of a rectilinear map with its joined grid, outcome by outcome, and what an accepted map has. Assumes nothing.
 use mathlib.Core.Path.{◌≡◌, sym, ap, ◌∙◌}
-use mathlib.Core.Bool.{Bool, true, false, not}
+use mathlib.Core.Bool.{true, false, not}
 use mathlib.Core.List.{List, [], ◌++◌}
-use Prim.Native.Nat.{ℕ, ◌≤◌, ◌<◌}
+use Prim.Native.Nat.{ℕ}
 use native.Mathlib.Omega.{arith}
 use borrow.Author.Tests.{not-false}
 use lib.ListN.{length, take}
 use lib.Ieee.{Float}
 use Rattle.shape.specs.Shape.{size}
-use Rattle.shape.specs.Checks.{Check, first_refusal, shape_checks, length_check, Positive}
+use Rattle.shape.specs.Checks.{first_refusal, shape_checks, length_check, Positive}
 use Rattle.shape.specs.Refusal.{refusal_number, answer_number}
 use Rattle.shape.specs.declared.answers.Refusal.{Refusal}
 use Rattle.shape.specs.declared.answers.Answer.{Answer}

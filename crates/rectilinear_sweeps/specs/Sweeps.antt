@@ -8,7 +8,7 @@ use Rattle.std.specs.Float.Ieee.{div}
 use Rattle.multibspline.specs.Numbers.{f0}
 use Rattle.multibspline.specs.Thomas.{Row, Reduced, at, denom, reduce}
 use Rattle.lanes.specs.Lanes.{zero_samples, less_cell, step_cell}
-use Rattle.rectilinear_lines.specs.Rows.{at_knot, plus, low_row, high_row, first_row, inner_row, last_row, row}
+use Rattle.rectilinear_lines.specs.Rows.{at_knot, plus, low_row, first_row, inner_row, last_row, row}
 
 -- a reduced row by its upper number alone
 abbrev pub above : Float → Reduced

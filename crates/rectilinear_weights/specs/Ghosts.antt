@@ -1,7 +1,7 @@
 -- Ghost coefficients: past either end of a line a further coefficient counts, which is not stored. The third derivative in
 -- the end span is zero, which gives it as a sum of the three stored ones beside it; its three factors are the ghost numbers of
 -- that end. Each operation is rounded to the format f. Assumes nothing.
-use Rattle.std.specs.Prelude.{List, [], ◌∷◌, ℕ, ◌-◌, length, Float}
+use Rattle.std.specs.Prelude.{List, [], ◌∷◌, ◌-◌, length, Float}
 use Rattle.std.specs.Float.{Format}
 use Rattle.std.specs.Float.Ieee.{neg, div}
 use Rattle.multibspline.specs.Thomas.{at}

@@ -1,7 +1,7 @@
 -- The checks of a regular fit, outcome by outcome. Assumes nothing.
 use mathlib.Core.Path.{◌≡◌, sym, ap, ◌∙◌}
 use mathlib.Core.List.{List, [], ◌++◌}
-use Prim.Native.Nat.{ℕ, ◌*◌, ◌≤◌, ◌<◌}
+use Prim.Native.Nat.{ℕ, ◌≤◌, ◌<◌}
 use lib.ListN.{take}
 use Rattle.shape.specs.Shape.{size}
 use Rattle.shape.specs.Checks.{first_refusal, shape_checks, length_check, scratch_check, regular_fit_checks}

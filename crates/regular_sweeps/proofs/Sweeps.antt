@@ -1,16 +1,16 @@
 -- The sweeps over the rows of a regular axis meet the equations of a scheme, and its upper numbers are the same for all lines.
 -- For both formats. Assumes nothing.
-use mathlib.Core.Path.{◌≡◌, refl, sym, ap, ◌∙◌}
+use mathlib.Core.Path.{◌≡◌, refl, sym}
 use mathlib.Core.Bool.{Bool, true, false, cond}
 use mathlib.Core.List.{List}
-use Prim.Native.Nat.{ℕ, zero, suc, ◌+◌, ◌-◌, ◌*◌, ◌≤◌, ◌<◌}
+use Prim.Native.Nat.{ℕ, zero, suc, ◌-◌, ◌≤◌}
 use native.Mathlib.Omega.{arith}
 use borrow.Author.Tests.{eq-eqb, ne_eqb}
 use lib.Dec.{eqb}
 use lib.Ieee as Ieee
 use lib.Ieee.{Float, Format}
 use Rattle.multibspline.specs.Numbers.{f0, f1}
-use Rattle.multibspline.specs.Thomas.{Reduced, at, reduce}
+use Rattle.multibspline.specs.Thomas.{Reduced, reduce}
 use Rattle.multibspline.proofs.Sweeps.{back-here}
 use Rattle.lanes.specs.Lanes.{zero_samples, Uppers, less_cell, step_cell, back_cell}
 use Rattle.lanes.proofs.Solving.{Scheme}

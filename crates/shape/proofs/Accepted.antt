@@ -1,14 +1,14 @@
 -- When a shape is accepted, what that gives of each axis, and how a refusal of the shape carries to longer lists of checks.
 -- Assumes nothing.
 use mathlib.Core.Path.{◌≡◌, refl, sym, ap, ap₂, ◌∙◌}
-use mathlib.Core.Bool.{Bool, true, false, cond, not, ◌&&◌, ◌||◌}
+use mathlib.Core.Bool.{Bool, true, false, cond, ◌&&◌, ◌||◌}
 use mathlib.Core.List.{List, [], ◌∷◌, ◌++◌}
 use Prim.Native.Nat.{ℕ, zero, suc, ◌+◌, ◌*◌, ◌-◌, ◌≤◌, ◌<◌}
 use native.Mathlib.Nat.{mul-pos, le-mul_of_pos_right, mul-le-mul_right, mul-le-mul_left, not-suc-le-zero, le_of_suc-le-suc}
 use native.Mathlib.Numerals.{add-one}
 use native.Mathlib.Omega.{arith}
 use lib.Dec.{eqb, ltb}
-use lib.ListN.{length, get_or, take, drop, length-take}
+use lib.ListN.{length, get_or, take, drop}
 use lib.Seq.{length-take-le, get_or-take, take-take}
 use borrow.Author.Tests.{ltb-false, lt-ltb, le-ltb, eqb-false, ne_eqb, eq-eqb}
 use Rattle.shape.specs.Shape.{product, longest, size, points, NotEmpty, stride, lines, first}

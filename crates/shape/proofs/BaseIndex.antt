@@ -1,12 +1,12 @@
 -- The first cell of a line is the Rust's `line_base_index`: the loop over the other axes, from the last to the first, counts
 -- the later axes by l % stride and the earlier ones by l / stride. Assumes nothing.
-use mathlib.Core.Path.{◌≡◌, refl, sym, ap, ap₂, ◌∙◌}
+use mathlib.Core.Path.{◌≡◌, refl, sym, ap, ◌∙◌}
 use mathlib.Core.List.{List, [], ◌∷◌}
 use Prim.Native.Nat.{ℕ, zero, suc, ◌+◌, ◌*◌, ◌/◌, ◌%◌, ◌-◌, ◌≤◌, ◌<◌}
 use native.Mathlib.Nat.{mod-lt, mod-one, mod-eq_of_lt, div-one, div-add-mod', div-div-eq-div-mul, div-lt_iff_lt-mul, mul_comm, mul-le-mul_right, not-suc-le-zero, le_of_suc-le-suc}
 use native.Mathlib.Numerals.{add-one}
 use native.Mathlib.Omega.{arith}
-use lib.ListN.{length, get_or, take, drop}
+use lib.ListN.{length, take, drop}
 use lib.Seq.{drop-length, drop-cons, slice_empty}
 use borrow.Author.Tests.{eq-eqb, ne_eqb}
 use Rattle.shape.specs.Shape.{product, points, NotEmpty, stride, lines, first, first_cell}

@@ -7,7 +7,7 @@ use Prim.Native.Nat.{ℕ, zero, suc, ◌+◌, ◌-◌, ◌*◌, ◌≤◌, ◌<�
 use native.Mathlib.Nat.{not-suc-le-zero, eq-or-lt_of_le, le_of_suc-le-suc}
 use native.Mathlib.Omega.{arith}
 use lib.ListN.{length, get_or}
-use Rattle.shape.specs.Shape.{size, points, NotEmpty, stride, lines, first, first_cell, line_of, place_of, cell_at, line_at, place_at}
+use Rattle.shape.specs.Shape.{size, points, NotEmpty, stride, lines, first_cell, line_of, place_of, line_at, place_at}
 use Rattle.shape.specs.Cells.{on_line, line}
 use Rattle.shape.specs.Fit.{Looks, solve_line, solve_lines, along, fit_after}
 use Rattle.shape.proofs.Cells.{length-put, line-in, line-out}

@@ -7,7 +7,7 @@ use native.Mathlib.Omega.{arith}
 use lib.Dec.{eqb}
 use lib.ListN.{length, get_or, take}
 use borrow.Author.Tests.{lt-ltb, le-ltb, ne_eqb}
-use Rattle.shape.specs.Shape.{longest, size, points, stride, lines, first, first_cell, is_line}
+use Rattle.shape.specs.Shape.{longest, size, points, stride, lines, first_cell, is_line}
 use Rattle.shape.specs.Refusal.{refusal_number, answer_number}
 use Rattle.shape.specs.Checks.{first_refusal, refuse, most_points, shape_checks}
 use Rattle.shape.specs.Usable.{Usable}

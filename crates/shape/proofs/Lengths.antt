@@ -10,7 +10,7 @@ use lib.Dec.{ltb}
 use lib.ListN.{length, take, drop, get_or, drop_of_length-le}
 use lib.Seq.{slice-cons, length-take-le}
 use borrow.Author.Tests.{ltb-false}
-use Rattle.shape.specs.Shape.{product, longest, points}
+use Rattle.shape.specs.Shape.{product, longest}
 use Rattle.shape.specs.Checks.{any_short}
 
 -- ---- the axes from i on, of the first k: one more axis, and none

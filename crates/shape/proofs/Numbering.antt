@@ -1,17 +1,16 @@
 -- The numbering says what the paper says: a cell counts its places, the last axis fastest; the line of axis a through a cell
 -- counts the places on the other axes, the last of them fastest; so two cells share a line of axis a where they differ at most
 -- on axis a. And the checked points i and k. Assumes nothing.
-use mathlib.Core.Path.{◌≡◌, refl, sym, ap, ap₂, ◌∙◌, subst}
+use mathlib.Core.Path.{◌≡◌, refl, sym, ap, ap₂, ◌∙◌}
 use mathlib.Core.Logic.{◌↔◌}
-use mathlib.Core.Bool.{Bool, true, false, not, ◌&&◌}
 use mathlib.Core.List.{List, [], ◌∷◌}
-use Prim.Native.Nat.{ℕ, zero, suc, ◌+◌, ◌*◌, ◌/◌, ◌%◌, ◌≤◌, ◌<◌}
-use native.Mathlib.Nat.{mod-lt, div-add-mod', div-div-eq-div-mul, mul_comm, mul-pos, div-lt_iff_lt-mul, mul-le-mul_right, mul-add-div_right, mul-add-mod_self_right, not-suc-le-zero, le_of_suc-le-suc, mod-one, div-eq_of_lt, mod-eq_of_lt, eq_of_mul-eq-mul_right}
+use Prim.Native.Nat.{ℕ, zero, suc, ◌+◌, ◌*◌, ◌/◌, ◌%◌, ◌<◌}
+use native.Mathlib.Nat.{mod-lt, div-add-mod', mul-pos, div-lt_iff_lt-mul, mul-le-mul_right, mul-add-div_right, mul-add-mod_self_right, not-suc-le-zero, le_of_suc-le-suc, div-eq_of_lt, mod-eq_of_lt}
 use native.Mathlib.Omega.{arith}
-use lib.ListN.{length, get_or, take, drop}
-use Rattle.shape.specs.Shape.{product, size, points, NotEmpty, stride, lines, is_line, first, cell_at, line_at, place_at, line_of, place_of}
+use lib.ListN.{length, get_or, take}
+use Rattle.shape.specs.Shape.{product, size, points, NotEmpty, stride, lines, line_at, place_at, line_of, place_of}
 use Rattle.shape.specs.Places.{places, count, without}
-use Rattle.shape.proofs.Radix.{product-pos, stride-pos, cut, quot, rem, cell_at-line_at, cell_at-lt, place_at-lt, line_at-cell_at}
+use Rattle.shape.proofs.Radix.{product-pos, stride-pos, cut, quot, rem}
 
 later : (n : ℕ) (ns : List ℕ) → NotEmpty (n ∷ ns) → NotEmpty ns
 later n ns h a b = h (suc a) (omega arith)

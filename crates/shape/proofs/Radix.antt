@@ -1,12 +1,12 @@
 -- The lines of an axis part the cells: cell and (line, place) determine one another. Assumes nothing.
-use mathlib.Core.Path.{◌≡◌, refl, sym, ap, ◌∙◌, subst}
+use mathlib.Core.Path.{◌≡◌, sym, ap, ◌∙◌}
 use mathlib.Core.List.{List, [], ◌∷◌}
 use Prim.Native.Nat.{ℕ, zero, suc, ◌+◌, ◌*◌, ◌/◌, ◌%◌, ◌≤◌, ◌<◌, min}
 use native.Mathlib.Nat.{mul-add-div_right, mul-add-mod_self_right, div-eq_of_lt, mod-eq_of_lt, mod-lt, div-add-mod', div-div-eq-div-mul, mul_comm, mul-pos, div-lt_iff_lt-mul, mul-le-mul_right, not-suc-le-zero, le_of_suc-le-suc, one-mul}
 use native.Mathlib.Omega.{arith}
 use lib.ListN.{length, get_or, take, drop, length-take}
 use lib.Seq.{get_or-take, length-take-le}
-use Rattle.shape.specs.Shape.{product, size, points, NotEmpty, stride, lines, first, first_cell, line_of, place_of, cell_at, line_at, place_at}
+use Rattle.shape.specs.Shape.{product, size, points, NotEmpty, stride, lines, first_cell, line_of, place_of, cell_at, line_at, place_at}
 
 -- ---- quotient and remainder are determined
 

@@ -1,6 +1,6 @@
 -- The shape of a map: its axes, cells and lines. `dims` lists the lengths of the axes, axis 0 first. Cells are numbered in
 -- C order, the last axis fastest. Assumes nothing.
-use Rattle.std.specs.Prelude.{Bool, ◌&&◌, List, [], ◌∷◌, ℕ, zero, suc, ◌+◌, ◌*◌, ◌/◌, ◌%◌, ◌<◌, max, length, get_or, take, drop, ltb}
+use Rattle.std.specs.Prelude.{Bool, ◌&&◌, List, [], ◌∷◌, ℕ, suc, ◌+◌, ◌*◌, ◌/◌, ◌%◌, ◌<◌, max, length, get_or, take, drop, ltb}
 
 unfoldable pub product : List ℕ → ℕ
 product [] = 1

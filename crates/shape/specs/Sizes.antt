@@ -1,7 +1,7 @@
 -- What a shape's methods answer: 0 for a shape that is refused and for an axis that it has not. Assumes nothing.
 use Rattle.std.specs.Prelude.{◌≡◌, cond, not, ◌&&◌, List, [], ◌∷◌, ◌++◌, ℕ, ◌*◌, eqb, ltb, take}
 use Rattle.shape.specs.Shape.{longest, size, stride, lines, first, is_line}
-use Rattle.shape.specs.Checks.{Check, refuse, first_refusal, shape_checks, shape_accepted}
+use Rattle.shape.specs.Checks.{refuse, first_refusal, shape_checks, shape_accepted}
 use Rattle.shape.specs.Refusal.{refusal_number}
 use Rattle.shape.specs.declared.answers.FirstCell.{FirstCell}
 use Rattle.shape.specs.declared.answers.FirstCell.TheVariants.{At, Refused}

@@ -1,4 +1,3 @@
-use borrow.Author.Rules.{rules}
 use lib.Ieee.{to_bits}
 use Rattle.float_text.proofs.Patterns.{is-nan, no_nan}
 use Rattle.float_text.proofs.bits_of.Goals as goal

@@ -1,5 +1,4 @@
 use mathlib.Core.Path.{sym}
-use borrow.Author.Rules.{rules}
 use lib.Ieee.{of_bits, div}
 use Rattle.float_text.proofs.Patterns.{nan_pattern, plain-pattern}
 use Rattle.float_text.proofs.float_of.Goals as goal

@@ -1,4 +1,3 @@
-use borrow.Author.Rules.{rules}
 use Rattle.float_text.proofs.Writing.{no_room, leb-sub}
 use Rattle.float_text.proofs.has_room.Goals as goal
 

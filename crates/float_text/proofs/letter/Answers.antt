@@ -1,4 +1,3 @@
-use borrow.Author.Rules.{rules}
 use borrow.Author.Tests.{lt-ltb, le-ltb}
 use Rattle.float_text.specs.Digits.{letter_of}
 use Rattle.float_text.proofs.letter.Goals as goal

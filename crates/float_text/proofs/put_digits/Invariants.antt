@@ -1,7 +1,5 @@
 use Prim.Native.Nat.{◌-◌}
-use native.Mathlib.Omega.{arith}
-use borrow.Author.Rules.{rules}
-use Rattle.float_text.proofs.Writing.{Printing, Printing-start, Printing-weight, Printing-digit, Printing-step, Printing-done}
+use Rattle.float_text.proofs.Writing.{Printing}
 use Rattle.float_text.proofs.put_digits.Given as goal
 
 abbrev pub invariant-loop-i : goal.invariant-loop-i

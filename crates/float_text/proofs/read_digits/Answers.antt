@@ -1,7 +1,6 @@
 use Prim.Native.Nat.{◌-◌}
 use borrow.Author.Rules.{rules}
-use lib.ListN.{length}
-use Rattle.float_text.proofs.Reading.{Reading, Reading-start, Reading-fits, Reading-mul, Reading-step, Reading-bad, Reading-done}
+use Rattle.float_text.proofs.Reading.{Reading-start, Reading-fits, Reading-mul, Reading-step, Reading-bad, Reading-done}
 use Rattle.float_text.proofs.read_digits.Goals as goal
 
 pub loop-i-init : goal.loop-i-init

@@ -1,7 +1,6 @@
 use Prim.Native.Nat.{◌-◌}
-use borrow.Author.Rules.{rules}
 use lib.ListN.{length}
-use Rattle.float_text.proofs.Reading.{Reading, Reading-start, Reading-fits, Reading-mul, Reading-step, Reading-bad, Reading-done}
+use Rattle.float_text.proofs.Reading.{Reading}
 use Rattle.float_text.proofs.read_digits.Given as goal
 
 abbrev pub invariant-loop-i : goal.invariant-loop-i

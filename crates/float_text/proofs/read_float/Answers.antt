@@ -1,5 +1,4 @@
 use mathlib.Core.Path.{sym, ◌∙◌}
-use borrow.Author.Rules.{rules}
 use Rattle.float_text.specs.Bits.{float_in}
 use Rattle.float_text.proofs.read_float.Goals as goal
 

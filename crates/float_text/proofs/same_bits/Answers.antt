@@ -1,4 +1,3 @@
-use borrow.Author.Rules.{rules}
 use Rattle.float_text.specs.Bits.{same_bits}
 use Rattle.float_text.proofs.same_bits.Goals as goal
 

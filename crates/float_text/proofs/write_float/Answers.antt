@@ -1,4 +1,3 @@
-use borrow.Author.Rules.{rules}
 use Rattle.float_text.specs.Bits.{float_text}
 use Rattle.float_text.proofs.write_float.Goals as goal
 

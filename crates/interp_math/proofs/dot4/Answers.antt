@@ -1,5 +1,4 @@
 use mathlib.Core.Path.{refl}
-use borrow.Author.Rules.{rules}
 use Rattle.interp_math.specs.Sum.{dot4}
 use Rattle.interp_math.proofs.dot4.Goals as goal
 

@@ -1,7 +1,5 @@
 use borrow.Author.Rules.{rules}
 use Rattle.map_print.proofs.Printing.{Wrote-put}
-use Rattle.map_print.proofs.put.Reads as reads
-use Rattle.map_print.proofs.put.Lts as lts
 use Rattle.map_print.proofs.put.Goals as goal
 
 pub returns : goal.returns

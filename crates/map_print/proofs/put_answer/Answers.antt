@@ -1,10 +1,5 @@
-use borrow.Author.Rules.{rules}
 use borrow.Author.Tests.{ne_eqb}
 use Rattle.map_print.specs.Print.{answer_line}
-use Rattle.map_print.proofs.put_answer.Reads as reads
-use Rattle.map_print.proofs.put_answer.Lts as lts
-use Rattle.map_print.proofs.put_number.Reads as put-number-reads
-use Rattle.map_print.proofs.put_values.Reads as put-values-reads
 use Rattle.map_print.proofs.put_answer.Goals as goal
 
 pub returns-then-number-eq0 : goal.returns-then-number-eq0

@@ -1,8 +1,5 @@
 use borrow.Author.Rules.{rules}
 use Rattle.map_print.proofs.Printing.{count-1, count-2, count-3, count-4, count-5}
-use Rattle.map_print.proofs.put_count.Reads as reads
-use Rattle.map_print.proofs.put_count.Lts as lts
-use Rattle.map_print.proofs.put_digits.Reads as put-digits-reads
 use Rattle.map_print.proofs.put_count.Goals as goal
 
 pub returns-then-n-lt10 : goal.returns-then-n-lt10

@@ -1,11 +1,5 @@
-use mathlib.Core.Path.{◌≡◌, refl, sym, ap, ◌∙◌}
 use Prim.Native.Nat.{◌-◌}
-use native.Mathlib.Omega.{arith}
-use borrow.Author.Rules.{rules}
-use lib.ListN.{length}
-use Rattle.map_print.proofs.Printing.{Listing, Listing-start, Listing-step, Listing-done}
-use Rattle.map_print.proofs.put_floats.Reads as reads
-use Rattle.map_print.proofs.put_floats.Lts as lts
+use Rattle.map_print.proofs.Printing.{Listing-start, Listing-step, Listing-done}
 use Rattle.map_print.proofs.put_floats.Goals as goal
 
 pub loop-i-init : goal.loop-i-init

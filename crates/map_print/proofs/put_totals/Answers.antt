@@ -1,12 +1,6 @@
-use borrow.Author.Rules.{rules}
 use native.Mathlib.Omega.{arith}
-use Rattle.map_print.proofs.Printing.{Wrote-then, length-count_text, length-floats_text, length-float_text}
+use Rattle.map_print.proofs.Printing.{Wrote-then, length-count_text}
 use Rattle.map_print.specs.Print.{total_line}
-use Rattle.map_print.proofs.put_totals.Reads as reads
-use Rattle.map_print.proofs.put_totals.Lts as lts
-use Rattle.map_print.proofs.put.Reads as put_reads
-use Rattle.map_print.proofs.put_count.Reads as put-count-reads
-use Rattle.map_print.proofs.put_head.Reads as put-head-reads
 use Rattle.map_print.proofs.put_totals.Goals as goal
 
 pub put-c-requires : goal.put-c-requires

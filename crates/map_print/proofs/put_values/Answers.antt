@@ -1,12 +1,5 @@
-use borrow.Author.Rules.{rules}
 use native.Mathlib.Omega.{arith}
-use Rattle.map_print.proofs.Printing.{values-text, Wrote-then, length-count_text, length-floats_text, length-float_text}
-use Rattle.map_print.proofs.put_values.Reads as reads
-use Rattle.map_print.proofs.put_values.Lts as lts
-use Rattle.map_print.proofs.put.Reads as put_reads
-use Rattle.map_print.proofs.put_floats.Reads as put-floats-reads
-use Rattle.map_print.proofs.put_next.Reads as put-next-reads
-use Rattle.map_print.proofs.put_head.Reads as put-head-reads
+use Rattle.map_print.proofs.Printing.{values-text, Wrote-then, length-floats_text, length-float_text}
 use Rattle.map_print.proofs.put_values.Goals as goal
 
 pub put_floats-d-requires : goal.put_floats-d-requires

@@ -1,6 +1,4 @@
-use borrow.Author.Rules.{rules}
-use lib.Ieee.{binary64}
-use Rattle.multibspline.proofs.Sweeps.{Substituted, sub-start, sub-step, sub-line, sub-done}
+use Rattle.multibspline.proofs.Sweeps.{sub-start, sub-step, sub-line, sub-done}
 use Rattle.multibspline.proofs.back_rows.Goals as goal
 
 pub loop-i-init : goal.loop-i-init

@@ -1,6 +1,5 @@
-use borrow.Author.Rules.{rules}
 use lib.Ieee.{binary64}
-use Rattle.multibspline.proofs.Sweeps.{Substituted, sub-start, sub-step, sub-line, sub-done}
+use Rattle.multibspline.proofs.Sweeps.{Substituted}
 use Rattle.multibspline.proofs.back_rows.Given as goal
 
 abbrev pub invariant-loop-i : goal.invariant-loop-i

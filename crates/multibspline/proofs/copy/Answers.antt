@@ -1,6 +1,5 @@
 use Prim.Native.Nat.{◌-◌}
-use borrow.Author.Rules.{rules}
-use Rattle.multibspline.proofs.Sweeps.{Same, same_start, same_step, same-done}
+use Rattle.multibspline.proofs.Sweeps.{same_start, same_step, same-done}
 use Rattle.multibspline.proofs.copy.Goals as goal
 
 pub loop-i-init : goal.loop-i-init

@@ -1,6 +1,5 @@
 use Prim.Native.Nat.{◌-◌}
-use borrow.Author.Rules.{rules}
-use Rattle.multibspline.proofs.Sweeps.{Same, same_start, same_step, same-done}
+use Rattle.multibspline.proofs.Sweeps.{Same}
 use Rattle.multibspline.proofs.copy.Given as goal
 
 abbrev pub invariant-loop-i : goal.invariant-loop-i

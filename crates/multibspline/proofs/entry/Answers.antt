@@ -1,4 +1,3 @@
-use borrow.Author.Rules.{rules}
 use Rattle.multibspline.proofs.entry.Goals as goal
 
 pub place-p-requires : goal.place-p-requires

@@ -1,7 +1,6 @@
 use mathlib.Core.Path.{◌∙◌}
 use native.Mathlib.Omega.{arith}
 use lib.Ieee.{binary64, of_bits}
-use borrow.Author.Rules.{rules}
 use Rattle.block_sums.proofs.OfQuery.{part_by, own-by}
 use Rattle.block_sums.proofs.gradients.gradient_3.Goals as goal
 

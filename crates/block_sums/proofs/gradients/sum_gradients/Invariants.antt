@@ -1,9 +1,8 @@
-use Prim.Native.Nat.{ℕ, ◌+◌, ◌*◌, ◌-◌}
-use native.Mathlib.Omega.{arith}
+use Prim.Native.Nat.{◌+◌, ◌*◌, ◌-◌}
 use lib.ListN.{get_or}
-use lib.Ieee.{Float, binary64}
+use lib.Ieee.{binary64}
 use Rattle.shape.specs.Cells.{put}
-use Rattle.evaluation.proofs.Blocks.{Writing, writing_start, writing-put, writing-done}
+use Rattle.evaluation.proofs.Blocks.{Writing}
 use Rattle.block_sums.specs.Sums.{part_of}
 use Rattle.block_sums.proofs.gradients.sum_gradients.Given as goal
 

@@ -1,5 +1,4 @@
 use Prim.Native.Nat.{◌*◌}
-use borrow.Author.Rules.{rules}
 use Rattle.evaluation.proofs.Rows.{part-behind}
 use Rattle.block_sums.proofs.gradients.sum_slopes.Goals as goal
 

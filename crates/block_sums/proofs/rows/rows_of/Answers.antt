@@ -1,10 +1,8 @@
 use mathlib.Core.Path.{refl}
-use Prim.Native.Nat.{ℕ, ◌+◌, ◌*◌, ◌-◌, ◌≤◌, ◌<◌}
+use Prim.Native.Nat.{ℕ, ◌*◌, ◌-◌, ◌≤◌, ◌<◌}
 use native.Mathlib.Nat.{mul-le-mul_left}
 use native.Mathlib.Omega.{arith}
-use borrow.Author.Rules.{rules}
-use Rattle.interp_math.proofs.Tables.{RowsTo, rows_start, rows_next}
-use Rattle.evaluation.specs.Block.{row_at}
+use Rattle.interp_math.proofs.Tables.{rows_start, rows_next}
 use Rattle.block_sums.proofs.rows.rows_of.Goals as goal
 
 -- no axis's rows stand behind those of the last

@@ -1,9 +1,5 @@
-use mathlib.Core.Path.{refl}
-use Prim.Native.Nat.{ℕ, ◌+◌, ◌*◌, ◌-◌, ◌≤◌, ◌<◌}
-use native.Mathlib.Nat.{mul-le-mul_left}
-use native.Mathlib.Omega.{arith}
-use borrow.Author.Rules.{rules}
-use Rattle.interp_math.proofs.Tables.{RowsTo, rows_start, rows_next}
+use Prim.Native.Nat.{◌+◌, ◌*◌, ◌-◌}
+use Rattle.interp_math.proofs.Tables.{RowsTo}
 use Rattle.evaluation.specs.Block.{row_at}
 use Rattle.block_sums.proofs.rows.rows_of.Given as goal
 

@@ -1,9 +1,7 @@
 use Prim.Native.Nat.{◌+◌, ◌-◌}
-use native.Mathlib.Omega.{arith}
-use borrow.Author.Rules.{rules}
 use lib.ListN.{get_or, set}
 use lib.Ieee.{binary64}
-use Rattle.evaluation.proofs.Blocks.{Writing, writing_start, writing-set, writing-done}
+use Rattle.evaluation.proofs.Blocks.{Writing}
 use Rattle.block_sums.specs.Sums.{value_of}
 use Rattle.block_sums.proofs.values.put_values.Given as goal
 

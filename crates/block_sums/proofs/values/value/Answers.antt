@@ -3,7 +3,6 @@ use Prim.Native.Nat.{◌*◌, ◌≤◌}
 use native.Mathlib.Omega.{arith}
 use lib.ListN.{length, get_or}
 use lib.Ieee.{binary64}
-use borrow.Author.Rules.{rules}
 use Rattle.interp_math.proofs.Four.{is-four}
 use Rattle.interp_math.proofs.Tables.{lanes-none}
 use Rattle.block_sums.proofs.OfQuery.{value-end, value-turned}

@@ -1,5 +1,4 @@
 use mathlib.Core.Path.{refl}
-use borrow.Author.Rules.{rules}
 use Rattle.evaluation.specs.Block.{row_at}
 use Rattle.evaluation.proofs.block.row.Goals as goal
 

@@ -1,8 +1,6 @@
-use mathlib.Core.Path.{◌≡◌, refl, ◌∙◌}
+use mathlib.Core.Path.{◌≡◌}
 use Prim.Native.Nat.{ℕ, ◌-◌, ◌≤◌, ◌<◌}
-use native.Mathlib.Omega.{arith}
-use lib.ListN.{length, get_or, length-set}
-use Rattle.evaluation.proofs.Weighed.{zero-next}
+use lib.ListN.{length, get_or}
 use Rattle.evaluation.proofs.block.zero_firsts.Given as goal
 
 abbrev pub invariant-loop-k : goal.invariant-loop-k

@@ -1,4 +1,3 @@
-use borrow.Author.Rules.{rules}
 use Rattle.evaluation.specs.Axes.{in_use}
 use Rattle.evaluation.proofs.in_use.used_lens.Goals as goal
 

@@ -1,11 +1,8 @@
-use mathlib.Core.Path.{◌≡◌, refl, ◌∙◌}
-use Prim.Native.Nat.{◌+◌, ◌*◌, ◌-◌, ◌≤◌, ◌<◌}
-use native.Mathlib.Omega.{arith}
-use lib.ListN.{length, get_or, length-set}
+use mathlib.Core.Path.{◌≡◌}
+use Prim.Native.Nat.{◌+◌, ◌*◌, ◌-◌, ◌≤◌}
+use lib.ListN.{length, get_or}
 use lib.Ieee.{nan}
 use Rattle.shape.specs.Cells.{put}
-use Rattle.shape.proofs.Cells.{put_next}
-use Rattle.evaluation.proofs.Queries.{in-batch}
 use Rattle.evaluation.proofs.places.put_parts.Given as goal
 
 abbrev pub invariant-loop-k : goal.invariant-loop-k

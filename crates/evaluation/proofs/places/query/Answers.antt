@@ -1,10 +1,9 @@
 use mathlib.Core.Path.{◌≡◌, ap, ◌∙◌}
-use Prim.Native.Nat.{◌+◌, ◌*◌, ◌-◌, ◌≤◌, ◌<◌}
+use Prim.Native.Nat.{◌+◌, ◌*◌, ◌-◌, ◌<◌}
 use native.Mathlib.Omega.{arith}
 use mathlib.Core.List.{List}
 use lib.ListN.{length, get_or, set}
 use lib.Ieee.{Float, nan, of_bits}
-use Rattle.evaluation.specs.Axes.{query}
 use Rattle.evaluation.proofs.Queries.{in-batch, query-next, query-none}
 use Rattle.evaluation.proofs.places.query.Goals as goal
 use Rattle.evaluation.proofs.places.query.Goals.{In-loop-a}

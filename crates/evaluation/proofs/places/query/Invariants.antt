@@ -1,11 +1,6 @@
-use mathlib.Core.Path.{◌≡◌, ap, ◌∙◌}
-use Prim.Native.Nat.{◌+◌, ◌*◌, ◌-◌, ◌≤◌, ◌<◌}
-use native.Mathlib.Omega.{arith}
-use mathlib.Core.List.{List}
-use lib.ListN.{length, get_or, set}
-use lib.Ieee.{Float, nan, of_bits}
+use mathlib.Core.Path.{◌≡◌}
+use Prim.Native.Nat.{◌-◌, ◌≤◌}
 use Rattle.evaluation.specs.Axes.{query}
-use Rattle.evaluation.proofs.Queries.{in-batch, query-next, query-none}
 use Rattle.evaluation.proofs.places.query.Given as goal
 
 abbrev pub invariant-loop-a : goal.invariant-loop-a

@@ -1,8 +1,7 @@
-use mathlib.Core.Path.{◌≡◌, ◌∙◌}
+use mathlib.Core.Path.{◌≡◌}
 use Prim.Native.Nat.{◌*◌}
 use native.Mathlib.Omega.{arith}
 use lib.ListN.{take, get_or}
-use borrow.Author.Rules.{rules}
 use Rattle.shape.specs.Shape.{size}
 use Rattle.evaluation.proofs.Striding.{points-of-stride}
 use Rattle.evaluation.proofs.strides.points_by_stride.Goals as goal

@@ -1,6 +1,5 @@
 use mathlib.Core.Path.{◌≡◌}
 use native.Mathlib.Omega.{arith}
-use borrow.Author.Rules.{rules}
 use Rattle.interp_math.proofs.Four.{is-four}
 use Rattle.evaluation.proofs.Striding.{strides-of-1, strides-of-2, strides-of-3, strides-of-4, small-of-3, last-of-4, small-of-4}
 use Rattle.evaluation.proofs.strides.strides_of.Goals as goal

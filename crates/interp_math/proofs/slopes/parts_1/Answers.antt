@@ -1,7 +1,6 @@
-use mathlib.Core.Path.{◌≡◌, ◌∙◌}
+use mathlib.Core.Path.{◌∙◌}
 use native.Mathlib.Omega.{arith}
 use lib.Ieee.{binary64}
-use borrow.Author.Rules.{rules}
 use Rattle.interp_math.specs.Table.{part_lanes}
 use Rattle.interp_math.proofs.Tables.{patch-rows, own-up, value-up}
 use Rattle.interp_math.proofs.slopes.parts_1.Goals as goal

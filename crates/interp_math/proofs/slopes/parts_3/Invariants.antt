@@ -1,11 +1,8 @@
-use mathlib.Core.Path.{refl, ◌∙◌}
 use Prim.Native.Nat.{◌+◌, ◌*◌, ◌-◌}
-use native.Mathlib.Omega.{arith}
 use lib.ListN.{get_or}
 use lib.Ieee.{binary64}
-use borrow.Author.Rules.{rules}
-use Rattle.interp_math.specs.Table.{lanes, sloped, part_lanes}
-use Rattle.interp_math.proofs.Tables.{near, RowsTo, rows_start, rows_next, part-row, value_row, part_up, own-up, value-up}
+use Rattle.interp_math.specs.Table.{lanes, sloped}
+use Rattle.interp_math.proofs.Tables.{RowsTo}
 use Rattle.interp_math.proofs.slopes.parts_3.Given as goal
 
 abbrev pub invariant-loop-p : goal.invariant-loop-p

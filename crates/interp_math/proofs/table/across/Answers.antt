@@ -1,4 +1,3 @@
-use borrow.Author.Rules.{rules}
 use Rattle.interp_math.specs.Table.{across}
 use Rattle.interp_math.proofs.table.across.Goals as goal
 

@@ -1,5 +1,4 @@
 use mathlib.Core.Path.{refl}
-use borrow.Author.Rules.{rules}
 use Rattle.interp_math.specs.Sum.{summed}
 use Rattle.interp_math.specs.Table.{lanes}
 use Rattle.interp_math.proofs.table.neighbours.Goals as goal

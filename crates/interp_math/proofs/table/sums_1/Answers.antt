@@ -2,7 +2,6 @@ use mathlib.Core.Path.{ap, ◌∙◌}
 use mathlib.Core.List.{List}
 use native.Mathlib.Omega.{arith}
 use lib.Ieee.{Float, binary64}
-use borrow.Author.Rules.{rules}
 use Rattle.interp_math.specs.Table.{turned, across}
 use Rattle.interp_math.proofs.Tables.{patch-rows, lanes-up}
 use Rattle.interp_math.proofs.table.sums_1.Goals as goal

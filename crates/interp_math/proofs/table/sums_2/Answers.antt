@@ -1,12 +1,11 @@
 use mathlib.Core.Path.{refl, ap, ◌∙◌}
 use mathlib.Core.List.{List}
-use Prim.Native.Nat.{◌+◌, ◌*◌, ◌-◌}
+use Prim.Native.Nat.{◌-◌}
 use native.Mathlib.Omega.{arith}
 use lib.ListN.{get_or}
 use lib.Ieee.{Float, binary64}
-use borrow.Author.Rules.{rules}
-use Rattle.interp_math.specs.Table.{lanes, turned, across}
-use Rattle.interp_math.proofs.Tables.{near, RowsTo, rows_start, rows_next, lanes-up}
+use Rattle.interp_math.specs.Table.{turned, across}
+use Rattle.interp_math.proofs.Tables.{near, rows_start, rows_next, lanes-up}
 use Rattle.interp_math.proofs.table.sums_2.Goals as goal
 
 pub loop-p-init : goal.loop-p-init

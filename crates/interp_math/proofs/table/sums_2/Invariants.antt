@@ -1,12 +1,8 @@
-use mathlib.Core.Path.{refl, ap, ◌∙◌}
-use mathlib.Core.List.{List}
 use Prim.Native.Nat.{◌+◌, ◌*◌, ◌-◌}
-use native.Mathlib.Omega.{arith}
 use lib.ListN.{get_or}
-use lib.Ieee.{Float, binary64}
-use borrow.Author.Rules.{rules}
-use Rattle.interp_math.specs.Table.{lanes, turned, across}
-use Rattle.interp_math.proofs.Tables.{near, RowsTo, rows_start, rows_next, lanes-up}
+use lib.Ieee.{binary64}
+use Rattle.interp_math.specs.Table.{lanes, turned}
+use Rattle.interp_math.proofs.Tables.{RowsTo}
 use Rattle.interp_math.proofs.table.sums_2.Given as goal
 
 abbrev pub invariant-loop-p : goal.invariant-loop-p

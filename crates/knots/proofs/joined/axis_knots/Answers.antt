@@ -1,7 +1,6 @@
 use Prim.Native.Nat.{◌+◌, ◌≤◌}
 use native.Mathlib.Omega.{arith}
 use lib.ListN.{length, get_or}
-use borrow.Author.Rules.{rules}
 use Rattle.knots.proofs.Totals.{grid-small, part-within, part-is}
 use Rattle.knots.proofs.joined.axis_knots.Goals as goal
 use Rattle.knots.proofs.joined.axis_knots.Goals.{After-offset-from}

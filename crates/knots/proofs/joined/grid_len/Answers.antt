@@ -1,5 +1,4 @@
 use native.Mathlib.Omega.{arith}
-use borrow.Author.Rules.{rules}
 use Rattle.knots.proofs.Totals.{grid-small}
 use Rattle.knots.proofs.joined.grid_len.Goals as goal
 

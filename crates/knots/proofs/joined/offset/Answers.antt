@@ -1,8 +1,5 @@
-use mathlib.Core.Path.{◌≡◌}
-use Prim.Native.Nat.{◌+◌, ◌-◌, ◌≤◌}
+use Prim.Native.Nat.{◌-◌}
 use native.Mathlib.Omega.{arith}
-use lib.ListN.{take, drop}
-use Rattle.knots.specs.Joined.{total}
 use Rattle.knots.proofs.Totals.{total-cons, total-end}
 use Rattle.knots.proofs.joined.offset.Goals as goal
 

@@ -1,9 +1,7 @@
 use mathlib.Core.Path.{◌≡◌}
 use Prim.Native.Nat.{◌+◌, ◌-◌, ◌≤◌}
-use native.Mathlib.Omega.{arith}
 use lib.ListN.{take, drop}
 use Rattle.knots.specs.Joined.{total}
-use Rattle.knots.proofs.Totals.{total-cons, total-end}
 use Rattle.knots.proofs.joined.offset.Given as goal
 
 abbrev pub invariant-loop-i : goal.invariant-loop-i

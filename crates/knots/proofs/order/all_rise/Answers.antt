@@ -1,9 +1,7 @@
 use mathlib.Core.Path.{◌≡◌, refl, sym}
 use mathlib.Core.Bool.{true}
-use Prim.Native.Nat.{◌-◌, ◌≤◌}
+use Prim.Native.Nat.{◌-◌}
 use native.Mathlib.Omega.{arith}
-use lib.ListN.{take}
-use borrow.Author.Rules.{rules}
 use Rattle.knots.specs.Joined.{all_rise}
 use Rattle.knots.proofs.Totals.{one-more-rises, one-falls}
 use mathlib.Core.Path.{ap}

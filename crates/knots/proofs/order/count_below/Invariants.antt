@@ -1,8 +1,5 @@
 use Prim.Native.Nat.{◌+◌}
-use native.Mathlib.Omega.{arith}
-use borrow.Author.Rules.{rules}
 use Rattle.knots.specs.Window.{Between}
-use Rattle.knots.proofs.Counts.{between_start}
 use Rattle.knots.proofs.order.count_below.Given as goal
 
 abbrev pub invariant-loop-len : goal.invariant-loop-len

@@ -1,7 +1,6 @@
-use Prim.Native.Nat.{◌+◌, ◌-◌}
+use Prim.Native.Nat.{◌-◌}
 use native.Mathlib.Omega.{arith}
-use borrow.Author.Rules.{rules}
-use Rattle.knots.proofs.Counts.{Counting, counting-start, counting-next, counting-done}
+use Rattle.knots.proofs.Counts.{counting-start, counting-next, counting-done}
 use Rattle.knots.proofs.order.count_from.Goals as goal
 
 pub loop-i-init : goal.loop-i-init

@@ -1,7 +1,5 @@
 use Prim.Native.Nat.{◌+◌, ◌-◌}
-use native.Mathlib.Omega.{arith}
-use borrow.Author.Rules.{rules}
-use Rattle.knots.proofs.Counts.{Counting, counting-start, counting-next, counting-done}
+use Rattle.knots.proofs.Counts.{Counting}
 use Rattle.knots.proofs.order.count_from.Given as goal
 
 abbrev pub invariant-loop-i : goal.invariant-loop-i

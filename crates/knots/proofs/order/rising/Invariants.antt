@@ -1,12 +1,9 @@
-use mathlib.Core.Path.{◌≡◌, refl, sym, ◌∙◌}
+use mathlib.Core.Path.{◌≡◌}
 use mathlib.Core.Bool.{◌&&◌}
 use Prim.Native.Nat.{◌-◌, ◌≤◌}
-use native.Mathlib.Omega.{arith}
-use borrow.Author.Rules.{rules}
 use lib.Dec.{eqb}
 use lib.ListN.{length, drop}
 use Rattle.knots.specs.Knots.{rises}
-use Rattle.knots.proofs.Increase.{rises-on, rises-end}
 use Rattle.knots.proofs.order.rising.Given as goal
 
 abbrev pub invariant-loop-i : goal.invariant-loop-i

@@ -1,4 +1,3 @@
-use borrow.Author.Rules.{rules}
 use Rattle.knots.specs.Place.{get_loc}
 use Rattle.knots.proofs.place.get_loc.Goals as goal
 

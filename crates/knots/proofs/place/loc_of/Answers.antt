@@ -1,4 +1,3 @@
-use borrow.Author.Rules.{rules}
 use borrow.Author.Tests.{eq-eqb, ne_eqb}
 use Rattle.knots.specs.Place.{loc_of}
 use Rattle.knots.proofs.place.loc_of.Goals as goal

@@ -1,9 +1,7 @@
 use Prim.Native.Nat.{◌-◌}
-use native.Mathlib.Omega.{arith}
-use borrow.Author.Rules.{rules}
 use lib.Ieee.{binary64}
 use Rattle.lanes.specs.Lanes.{step_cell}
-use Rattle.lanes.proofs.Rows.{Swept, sweep-start, sweep-step, sweep-done}
+use Rattle.lanes.proofs.Rows.{Swept}
 use Rattle.lanes.proofs.bundle.bundle_step_sweep.Given as goal
 
 abbrev pub invariant-loop-j : goal.invariant-loop-j

@@ -1,8 +1,5 @@
 use Prim.Native.Nat.{◌-◌}
-use borrow.Author.Rules.{rules}
-use lib.Ieee.{nan}
-use Rattle.shape.specs.Cells.{line}
-use Rattle.lanes.proofs.Groups.{Filled, filled-start, filled-step, filled-done}
+use Rattle.lanes.proofs.Groups.{filled-start, filled-step, filled-done}
 use Rattle.lanes.proofs.cells.keep_line.Goals as goal
 
 pub loop-i-init : goal.loop-i-init

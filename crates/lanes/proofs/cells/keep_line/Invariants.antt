@@ -1,8 +1,7 @@
 use Prim.Native.Nat.{◌-◌}
-use borrow.Author.Rules.{rules}
 use lib.Ieee.{nan}
 use Rattle.shape.specs.Cells.{line}
-use Rattle.lanes.proofs.Groups.{Filled, filled-start, filled-step, filled-done}
+use Rattle.lanes.proofs.Groups.{Filled}
 use Rattle.lanes.proofs.cells.keep_line.Given as goal
 
 abbrev pub invariant-loop-i : goal.invariant-loop-i

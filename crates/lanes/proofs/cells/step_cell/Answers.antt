@@ -1,5 +1,4 @@
 use mathlib.Core.Path.{refl}
-use borrow.Author.Rules.{rules}
 use Rattle.lanes.specs.Lanes.{step_cell}
 use Rattle.lanes.proofs.cells.step_cell.Goals as goal
 

@@ -1,4 +1,3 @@
-use borrow.Author.Rules.{rules}
 use Rattle.lanes.specs.Lanes.{back_cell}
 use Rattle.lanes.proofs.slab.slab_back_row.Goals as goal
 

@@ -1,9 +1,6 @@
 use Prim.Native.Nat.{◌-◌}
 use native.Mathlib.Omega.{arith}
-use borrow.Author.Rules.{rules}
-use lib.Ieee.{binary64}
-use Rattle.lanes.specs.Lanes.{less_cell}
-use Rattle.lanes.proofs.Rows.{Swept, sweep-start, sweep-step-1, sweep-done}
+use Rattle.lanes.proofs.Rows.{sweep-start, sweep-step-1, sweep-done}
 use Rattle.lanes.proofs.slab.slab_less_sweep.Goals as goal
 
 pub loop-j-init : goal.loop-j-init

@@ -1,7 +1,4 @@
-use borrow.Author.Rules.{rules}
-use lib.Ieee.{binary64}
-use Rattle.lanes.specs.Lanes.{back_cell}
-use Rattle.lanes.proofs.Turns.{Down, down-start, down_step, down-done}
+use Rattle.lanes.proofs.Turns.{down-start, down_step, down-done}
 use Rattle.lanes.proofs.slab.slab_substitute.Goals as goal
 
 pub loop-i-init : goal.loop-i-init

@@ -1,7 +1,6 @@
-use borrow.Author.Rules.{rules}
 use lib.Ieee.{binary64}
 use Rattle.lanes.specs.Lanes.{back_cell}
-use Rattle.lanes.proofs.Turns.{Down, down-start, down_step, down-done}
+use Rattle.lanes.proofs.Turns.{Down}
 use Rattle.lanes.proofs.slab.slab_substitute.Given as goal
 
 abbrev pub invariant-loop-i : goal.invariant-loop-i

@@ -1,9 +1,6 @@
 use Prim.Native.Nat.{◌-◌}
-use native.Mathlib.Omega.{arith}
-use borrow.Author.Rules.{rules}
 use Rattle.book.specs.LineCall.{byte_above}
-use Rattle.shape.proofs.Below.{NoneYet, none-start, none_done}
-use Rattle.book.proofs.Bytes.{above_step, above-found}
+use Rattle.shape.proofs.Below.{NoneYet}
 use Rattle.ledger.proofs.bytes.any_above.Given as goal
 
 abbrev pub invariant-loop-i : goal.invariant-loop-i

@@ -1,9 +1,6 @@
-use mathlib.Core.Path.{sym, ◌∙◌}
 use Prim.Native.Nat.{◌-◌}
-use borrow.Author.Rules.{rules}
 use Rattle.ledger.specs.Bytes.{byte_other}
-use Rattle.shape.proofs.Below.{NoneYet, none-start, none_done}
-use Rattle.ledger.proofs.Others.{other_step, other-found}
+use Rattle.shape.proofs.Below.{NoneYet}
 use Rattle.ledger.proofs.bytes.any_other.Given as goal
 
 abbrev pub invariant-loop-i : goal.invariant-loop-i

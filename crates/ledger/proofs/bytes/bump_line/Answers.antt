@@ -1,5 +1,4 @@
 use mathlib.Core.Path.{refl}
-use borrow.Author.Rules.{rules}
 use Rattle.ledger.proofs.DueBytes.{set_more}
 use Rattle.ledger.proofs.bytes.bump_line.Goals as goal
 

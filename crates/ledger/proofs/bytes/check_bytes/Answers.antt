@@ -1,6 +1,4 @@
 use mathlib.Core.Path.{sym, ◌∙◌}
-use borrow.Author.Rules.{rules}
-use borrow.Author.Tests.{not-true, not-false}
 use Rattle.shape.proofs.Checks.{check-fails, check-passes}
 use Rattle.ledger.proofs.Stages.{none-refuse}
 use Rattle.ledger.proofs.Others.{none_above, none_below, other-below}

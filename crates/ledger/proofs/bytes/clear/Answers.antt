@@ -1,7 +1,6 @@
 use Prim.Native.Nat.{◌-◌}
 use native.Mathlib.Omega.{arith}
-use borrow.Author.Rules.{rules}
-use Rattle.ledger.proofs.Cleared.{Cleared, clear-start, clear_step, clear-done}
+use Rattle.ledger.proofs.Cleared.{clear-start, clear_step, clear-done}
 use Rattle.ledger.proofs.bytes.clear.Goals as goal
 
 pub loop-i-init : goal.loop-i-init

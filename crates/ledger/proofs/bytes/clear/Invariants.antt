@@ -1,7 +1,5 @@
 use Prim.Native.Nat.{◌-◌}
-use native.Mathlib.Omega.{arith}
-use borrow.Author.Rules.{rules}
-use Rattle.ledger.proofs.Cleared.{Cleared, clear-start, clear_step, clear-done}
+use Rattle.ledger.proofs.Cleared.{Cleared}
 use Rattle.ledger.proofs.bytes.clear.Given as goal
 
 abbrev pub invariant-loop-i : goal.invariant-loop-i

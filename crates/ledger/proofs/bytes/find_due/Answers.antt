@@ -1,6 +1,5 @@
 use native.Mathlib.Omega.{arith}
 use lib.ListN.{take}
-use borrow.Author.Rules.{rules}
 use Rattle.shape.proofs.Found.{line-inside}
 use Rattle.ledger.proofs.Stages.{is-accepted, is-refused}
 use Rattle.ledger.proofs.DueBytes.{due-none, found-is, due-rest}

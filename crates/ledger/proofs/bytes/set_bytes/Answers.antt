@@ -1,7 +1,6 @@
 use Prim.Native.Nat.{◌-◌}
 use native.Mathlib.Omega.{arith}
-use borrow.Author.Rules.{rules}
-use Rattle.ledger.proofs.DueBytes.{SetTo, set-start, set-step, set-done}
+use Rattle.ledger.proofs.DueBytes.{set-start, set-step, set-done}
 use Rattle.ledger.proofs.bytes.set_bytes.Goals as goal
 
 pub loop-i-init : goal.loop-i-init

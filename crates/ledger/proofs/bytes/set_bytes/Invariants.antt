@@ -1,7 +1,5 @@
 use Prim.Native.Nat.{◌-◌}
-use native.Mathlib.Omega.{arith}
-use borrow.Author.Rules.{rules}
-use Rattle.ledger.proofs.DueBytes.{SetTo, set-start, set-step, set-done}
+use Rattle.ledger.proofs.DueBytes.{SetTo}
 use Rattle.ledger.proofs.bytes.set_bytes.Given as goal
 
 abbrev pub invariant-loop-i : goal.invariant-loop-i

@@ -1,4 +1,3 @@
-use borrow.Author.Rules.{rules}
 use Rattle.ledger.proofs.Stages.{two-first, two-second, two-passed}
 use Rattle.ledger.proofs.shared.check_held.Goals as goal
 

@@ -1,4 +1,3 @@
-use borrow.Author.Rules.{rules}
 use Rattle.ledger.proofs.Stages.{samples-differ, samples-agree}
 use Rattle.ledger.proofs.shared.check_lent.Goals as goal
 

@@ -1,4 +1,3 @@
-use borrow.Author.Rules.{rules}
 use Rattle.ledger.proofs.Stages.{scratch-short, scratch-enough}
 use Rattle.ledger.proofs.shared.check_scratch.Goals as goal
 

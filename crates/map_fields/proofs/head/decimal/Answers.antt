@@ -2,9 +2,6 @@ use native.Mathlib.Nat.{le_trans, pow-le-pow_right}
 use lib.Dec.{lit<, lit≤}
 use borrow.Author.Tests.{eq-eqb, ne_eqb, lt-ltb, le-ltb}
 use Rattle.map_fields.specs.Head.{decimal_in}
-use Rattle.map_fields.proofs.head.decimal.Reads as reads
-use Rattle.map_fields.proofs.head.decimal.Lts as lts
-use Rattle.float_text.proofs.read_digits.Reads as read-digits-reads
 use Rattle.map_fields.proofs.head.decimal.Goals as goal
 
 pub returns-then-text-eq0 : goal.returns-then-text-eq0

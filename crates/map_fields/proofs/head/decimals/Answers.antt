@@ -1,11 +1,5 @@
-use native.Mathlib.Omega.{arith}
-use Prim.Native.Nat.{◌+◌, ◌-◌}
-use lib.ListN.{length}
-use Rattle.map_fields.proofs.Decimals.{Counting, Counting-start, Counting-step, Counting-last, Counting-bad}
-use Rattle.map_fields.proofs.head.decimals.Reads as reads
-use Rattle.map_fields.proofs.head.decimals.Lts as lts
-use Rattle.map_fields.proofs.rows.find.Reads as find-reads
-use Rattle.map_fields.proofs.head.keep.Reads as keep-reads
+use Prim.Native.Nat.{◌-◌}
+use Rattle.map_fields.proofs.Decimals.{Counting-start, Counting-step, Counting-last, Counting-bad}
 use Rattle.map_fields.proofs.head.decimals.Goals as goal
 
 pub loop-k-init : goal.loop-k-init

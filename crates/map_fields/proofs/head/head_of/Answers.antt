@@ -1,13 +1,4 @@
 use Rattle.map_fields.proofs.FirstLines.{head-none, head-one, head-two, head-kind, head-flag, head-is, two, tested}
-use borrow.Author.Tests.{not-true, not-false}
-use borrow.Author.Rules.{rules}
-use Rattle.map_fields.proofs.head.head_of.Reads as reads
-use Rattle.map_fields.proofs.head.head_of.Lts as lts
-use Rattle.map_fields.proofs.head.byte_at.Reads as byte-at-reads
-use Rattle.map_fields.proofs.head.either.Reads as either-reads
-use Rattle.map_fields.proofs.head.lengths.Reads as lengths-reads
-use Rattle.map_fields.proofs.head.unreadable.Reads as unreadable-reads
-use Rattle.map_fields.proofs.rows.find.Reads as find-reads
 use Rattle.map_fields.proofs.head.head_of.Goals as goal
 
 pub returns-then-e-line : goal.returns-then-e-line

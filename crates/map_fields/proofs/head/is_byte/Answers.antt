@@ -1,7 +1,4 @@
 use Rattle.map_fields.proofs.FirstLines.{byte-not, byte-is}
-use borrow.Author.Rules.{rules}
-use Rattle.map_fields.proofs.head.is_byte.Reads as reads
-use Rattle.map_fields.proofs.head.is_byte.Lts as lts
 use Rattle.map_fields.proofs.head.is_byte.Goals as goal
 
 pub returns-then-text-ne1 : goal.returns-then-text-ne1

@@ -1,9 +1,4 @@
-use borrow.Author.Rules.{rules}
 use mathlib.Core.Path.{sym, ◌∙◌}
-use Rattle.map_fields.proofs.head.keep.Reads as reads
-use Rattle.map_fields.proofs.head.keep.Lts as lts
-use Rattle.map_fields.proofs.head.decimal_at.Reads as decimal-at-reads
-use Rattle.map_fields.proofs.head.store.Reads as store-reads
 use Rattle.map_fields.proofs.head.keep.Goals as goal
 
 pub returns-in-Bits-clause-value : goal.returns-in-Bits-clause-value

@@ -1,12 +1,6 @@
 use Rattle.map_fields.proofs.FirstLines.{head-none, lengths-bad, lengths-miscounted, lengths_read}
 use borrow.Author.Tests.{not-true, not-false}
 use mathlib.Core.Path.{refl}
-use borrow.Author.Rules.{rules}
-use Rattle.map_fields.proofs.head.lengths.Reads as reads
-use Rattle.map_fields.proofs.head.lengths.Lts as lts
-use Rattle.map_fields.proofs.head.decimals.Reads as decimals-reads
-use Rattle.map_fields.proofs.head.four_of.Reads as four-of-reads
-use Rattle.map_fields.proofs.head.unreadable.Reads as unreadable-reads
 use Rattle.map_fields.proofs.head.lengths.Goals as goal
 
 pub returns-then-not-run : goal.returns-then-not-run

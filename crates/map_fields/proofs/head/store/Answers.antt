@@ -1,8 +1,5 @@
-use borrow.Author.Rules.{rules}
 use mathlib.Core.Path.{sym}
 use lib.Seq.{set_out}
-use Rattle.map_fields.proofs.head.store.Reads as reads
-use Rattle.map_fields.proofs.head.store.Lts as lts
 use Rattle.map_fields.proofs.head.store.Goals as goal
 
 pub returns-else-k-numbers : goal.returns-else-k-numbers

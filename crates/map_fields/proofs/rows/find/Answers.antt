@@ -1,8 +1,7 @@
-use mathlib.Core.Path.{◌≡◌, refl}
+use mathlib.Core.Path.{refl}
 use Prim.Native.Nat.{◌-◌}
 use borrow.Author.Rules.{rules}
-use lib.ListN.{length}
-use Rattle.map_fields.proofs.Finding.{Finding, Finding-found, Finding-step, Finding-done}
+use Rattle.map_fields.proofs.Finding.{Finding-found, Finding-step, Finding-done}
 use Rattle.map_fields.proofs.rows.find.Goals as goal
 
 pub loop-i-init : goal.loop-i-init

@@ -1,5 +1,4 @@
 use Rattle.map_fields.proofs.FloatRows.{field-read, field-unread}
-use borrow.Author.Rules.{rules}
 use Rattle.map_fields.proofs.rows.put_float.Goals as goal
 
 pub returns-in-Float-clause-value : goal.returns-in-Float-clause-value

@@ -1,9 +1,4 @@
-use borrow.Author.Rules.{rules}
 use Rattle.map_fields.proofs.FloatRows.{no_row, one-row}
-use Rattle.map_fields.proofs.rows.read_row.Reads as reads
-use Rattle.map_fields.proofs.rows.read_row.Lts as lts
-use Rattle.map_fields.proofs.rows.find.Reads as find-reads
-use Rattle.map_fields.proofs.rows.floats_at.Reads as floats-at-reads
 use Rattle.map_fields.proofs.rows.read_row.Goals as goal
 
 pub returns-then-at-text : goal.returns-then-at-text

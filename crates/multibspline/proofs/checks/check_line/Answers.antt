@@ -1,6 +1,5 @@
 use mathlib.Core.Path.{sym, ◌∙◌}
 use native.Mathlib.Omega.{arith}
-use borrow.Author.Rules.{rules}
 use Rattle.multibspline.proofs.Line.{line-short, no-uppers, no-rights, no_line, line-passed}
 use Rattle.multibspline.proofs.checks.check_line.Goals as goal
 

@@ -1,4 +1,3 @@
-use borrow.Author.Rules.{rules}
 use Rattle.multibspline.proofs.Line.{ends, starts-past}
 use Rattle.multibspline.proofs.checks.ends_within.Goals as goal
 

@@ -1,10 +1,6 @@
-use mathlib.Core.Path.{◌≡◌, ◌∙◌}
-use Prim.Native.Nat.{◌+◌, ◌*◌, ◌-◌, ◌≤◌}
+use Prim.Native.Nat.{◌-◌}
 use native.Mathlib.Omega.{arith}
-use lib.ListN.{length}
-use borrow.Author.Tests.{not-false}
-use Rattle.oracle_list.specs.Agree.{ByteAgrees}
-use Rattle.oracle_list.proofs.Turns.{Passed, Passed-start, Passed-step, Passed-done, next_place}
+use Rattle.oracle_list.proofs.Turns.{Passed-start, Passed-step, Passed-done, next_place}
 use Rattle.oracle_list.proofs.WordLaws.{not-matched}
 use borrow.Author.Rules.{rules}
 use Rattle.oracle_list.proofs.bytes.bytes_agree.Goals as goal

@@ -1,12 +1,8 @@
-use mathlib.Core.Path.{◌≡◌, ◌∙◌}
+use mathlib.Core.Path.{◌≡◌}
 use Prim.Native.Nat.{◌+◌, ◌*◌, ◌-◌, ◌≤◌}
-use native.Mathlib.Omega.{arith}
 use lib.ListN.{length}
-use borrow.Author.Tests.{not-false}
 use Rattle.oracle_list.specs.Agree.{ByteAgrees}
-use Rattle.oracle_list.proofs.Turns.{Passed, Passed-start, Passed-step, Passed-done, next_place}
-use Rattle.oracle_list.proofs.WordLaws.{not-matched}
-use borrow.Author.Rules.{rules}
+use Rattle.oracle_list.proofs.Turns.{Passed}
 use Rattle.oracle_list.proofs.bytes.bytes_agree.Given as goal
 
 -- `at` is the place of byte i

@@ -1,9 +1,6 @@
 use Prim.Native.Nat.{◌-◌}
-use native.Mathlib.Omega.{arith}
 use lib.ListN.{length}
-use borrow.Author.Rules.{rules}
-use Rattle.oracle_list.proofs.Alike.{Alike, Alike-start, Alike-step, Alike-done}
-use Rattle.oracle_list.proofs.WordLaws.{not-matched}
+use Rattle.oracle_list.proofs.Alike.{Alike}
 use Rattle.oracle_list.proofs.bytes.same_bytes.Given as goal
 
 abbrev pub invariant-loop-i : goal.invariant-loop-i

@@ -1,6 +1,5 @@
 use mathlib.Core.Path.{sym, ◌∙◌}
 use Rattle.oracle_list.proofs.WordLaws.{not-matched}
-use borrow.Author.Rules.{rules}
 use Rattle.oracle_list.proofs.cells.cell_agrees.Goals as goal
 
 pub returns-in-Bits : goal.returns-in-Bits

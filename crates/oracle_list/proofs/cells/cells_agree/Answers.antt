@@ -1,10 +1,6 @@
 use Prim.Native.Nat.{◌-◌}
-use lib.ListN.{length}
-use borrow.Author.Tests.{not-false}
-use Rattle.oracle_list.specs.Agree.{test_of, CellAt}
-use Rattle.oracle_list.proofs.Turns.{Passed, Passed-start, Passed-step, Passed-done}
+use Rattle.oracle_list.proofs.Turns.{Passed-start, Passed-step, Passed-done}
 use Rattle.oracle_list.proofs.WordLaws.{not-matched}
-use borrow.Author.Rules.{rules}
 use Rattle.oracle_list.proofs.cells.cells_agree.Goals as goal
 
 pub loop-i-init : goal.loop-i-init

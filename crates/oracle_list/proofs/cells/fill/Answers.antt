@@ -1,7 +1,5 @@
 use Prim.Native.Nat.{◌-◌}
-use native.Mathlib.Omega.{arith}
-use lib.ListN.{length}
-use Rattle.oracle_list.proofs.CellLaws.{Filling, Filling-start, Filling-step, Filling-done}
+use Rattle.oracle_list.proofs.CellLaws.{Filling-start, Filling-step, Filling-done}
 use Rattle.oracle_list.proofs.cells.fill.Goals as goal
 
 pub loop-i-init : goal.loop-i-init

@@ -1,7 +1,6 @@
 use Prim.Native.Nat.{◌-◌}
-use native.Mathlib.Omega.{arith}
 use lib.ListN.{length}
-use Rattle.oracle_list.proofs.CellLaws.{Filling, Filling-start, Filling-step, Filling-done}
+use Rattle.oracle_list.proofs.CellLaws.{Filling}
 use Rattle.oracle_list.proofs.cells.fill.Given as goal
 
 abbrev pub invariant-loop-i : goal.invariant-loop-i

@@ -1,8 +1,5 @@
 use Prim.Native.Nat.{◌-◌}
-use native.Mathlib.Omega.{arith}
-use borrow.Author.Rules.{rules}
-use lib.ListN.{length}
-use Rattle.oracle_list.proofs.CellLaws.{Filled, Filled-start, Filled-step, Filled-bad, Filled-done}
+use Rattle.oracle_list.proofs.CellLaws.{Filled-start, Filled-step, Filled-bad, Filled-done}
 use Rattle.oracle_list.proofs.cells.is_filled.Goals as goal
 
 pub loop-i-init : goal.loop-i-init

@@ -1,4 +1,3 @@
-use borrow.Author.Rules.{rules}
 use Rattle.oracle_list.proofs.cells.passes.Goals as goal
 
 pub returns-in-Same : goal.returns-in-Same

@@ -1,9 +1,7 @@
-use Prim.Native.Nat.{ℕ, ◌+◌, ◌-◌}
+use Prim.Native.Nat.{◌-◌}
 use native.Mathlib.Omega.{arith}
-use lib.Ieee.{nan}
 use Rattle.oracle_list.specs.Agree.{float_at}
-use Rattle.oracle_list.proofs.Turns.{Setting, Setting-start, Setting-step, Setting-done}
-use borrow.Author.Rules.{rules}
+use Rattle.oracle_list.proofs.Turns.{Setting-start, Setting-step, Setting-done}
 use Rattle.oracle_list.proofs.cells.read_cells.Goals as goal
 
 pub loop-i-init : goal.loop-i-init

@@ -1,9 +1,7 @@
 use Prim.Native.Nat.{ℕ, ◌+◌, ◌-◌}
-use native.Mathlib.Omega.{arith}
 use lib.Ieee.{nan}
 use Rattle.oracle_list.specs.Agree.{float_at}
-use Rattle.oracle_list.proofs.Turns.{Setting, Setting-start, Setting-step, Setting-done}
-use borrow.Author.Rules.{rules}
+use Rattle.oracle_list.proofs.Turns.{Setting}
 use Rattle.oracle_list.proofs.cells.read_cells.Given as goal
 
 abbrev pub invariant-loop-i : goal.invariant-loop-i

@@ -1,9 +1,5 @@
 use Prim.Native.Nat.{◌-◌}
-use native.Mathlib.Omega.{arith}
-use borrow.Author.Rules.{rules}
-use lib.ListN.{length}
-use Rattle.float_text.specs.Bits.{same_bits}
-use Rattle.oracle_list.proofs.CellLaws.{Pairs, Pairs-start, Pairs-step, Pairs-bad, Pairs-done, Pairs-length}
+use Rattle.oracle_list.proofs.CellLaws.{Pairs-start, Pairs-step, Pairs-bad, Pairs-done, Pairs-length}
 use Rattle.oracle_list.proofs.cells.same_cells.Goals as goal
 
 pub returns-then-a-b : goal.returns-then-a-b

@@ -1,9 +1,7 @@
 use Prim.Native.Nat.{◌-◌}
-use native.Mathlib.Omega.{arith}
-use borrow.Author.Rules.{rules}
 use lib.ListN.{length}
 use Rattle.float_text.specs.Bits.{same_bits}
-use Rattle.oracle_list.proofs.CellLaws.{Pairs, Pairs-start, Pairs-step, Pairs-bad, Pairs-done, Pairs-length}
+use Rattle.oracle_list.proofs.CellLaws.{Pairs}
 use Rattle.oracle_list.proofs.cells.same_cells.Given as goal
 
 abbrev pub invariant-loop-i : goal.invariant-loop-i

@@ -1,5 +1,4 @@
 use Prim.Native.Nat.{◌-◌, ◌≤◌}
-use borrow.Author.Rules.{rules}
 use Rattle.oracle_list.proofs.words.are_words.Given as goal
 
 abbrev pub invariant-loop-i : goal.invariant-loop-i

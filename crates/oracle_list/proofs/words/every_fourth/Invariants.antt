@@ -1,8 +1,6 @@
 use Prim.Native.Nat.{ℕ, ◌+◌, ◌*◌, ◌-◌}
-use native.Mathlib.Omega.{arith}
 use Rattle.oracle_list.specs.Words.{number_at}
-use Rattle.oracle_list.proofs.Turns.{Setting, Setting-start, Setting-step, Setting-done}
-use borrow.Author.Rules.{rules}
+use Rattle.oracle_list.proofs.Turns.{Setting}
 use Rattle.oracle_list.proofs.words.every_fourth.Given as goal
 
 abbrev pub invariant-loop-i : goal.invariant-loop-i

@@ -2,7 +2,6 @@ use mathlib.Core.Path.{sym, ap, ◌∙◌}
 use borrow.Author.Tests.{eqb-true}
 use Rattle.float_text.specs.declared.Pattern.TheVariants.{Bits}
 use Rattle.oracle_list.proofs.WordLaws.{not-matched}
-use borrow.Author.Rules.{rules}
 use Rattle.oracle_list.proofs.words.is_number.Goals as goal
 
 pub returns-in-Bits : goal.returns-in-Bits

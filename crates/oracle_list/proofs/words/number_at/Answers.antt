@@ -1,5 +1,4 @@
 use mathlib.Core.Path.{sym, ◌∙◌}
-use borrow.Author.Rules.{rules}
 use Rattle.oracle_list.proofs.words.number_at.Goals as goal
 
 pub returns-in-Bits : goal.returns-in-Bits

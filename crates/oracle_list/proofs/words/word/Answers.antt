@@ -1,4 +1,3 @@
-use borrow.Author.Rules.{rules}
 use Rattle.oracle_list.proofs.WordLaws.{Word-past, Word-no-gap, Word-read}
 use Rattle.oracle_list.proofs.words.word.Goals as goal
 

@@ -1,11 +1,7 @@
 use Prim.Native.Nat.{◌-◌}
-use lib.ListN.{length}
-use borrow.Author.Tests.{not-false}
-use Rattle.oracle_list.proofs.CellLaws.{Counting, Counting-start, Counting-at, Counting-step}
-use Rattle.oracle_list.proofs.Turns.{Passed, Passed-start, Passed-step, Passed-done}
+use Rattle.oracle_list.proofs.CellLaws.{Counting-start, Counting-at, Counting-step}
+use Rattle.oracle_list.proofs.Turns.{Passed-start, Passed-step, Passed-done}
 use Rattle.oracle_list.proofs.WordLaws.{not-matched}
-use Rattle.oracle_match.specs.Batches.{CellOf}
-use borrow.Author.Rules.{rules}
 use Rattle.oracle_match.proofs.batches.are_written_or.Goals as goal
 
 pub loop-i-init : goal.loop-i-init

@@ -1,6 +1,3 @@
-use borrow.Author.Tests.{not-false}
-use Rattle.oracle_list.proofs.WordLaws.{not-matched}
-use borrow.Author.Rules.{rules}
 use Rattle.oracle_match.proofs.batches.batch_agrees.Goals as goal
 
 pub returns-clause-number : goal.returns-clause-number

@@ -1,6 +1,5 @@
 use mathlib.Core.Path.{sym, ◌∙◌}
 use native.Mathlib.Omega.{arith}
-use borrow.Author.Rules.{rules}
 use Rattle.oracle_match.proofs.batches.is_written_or.Goals as goal
 
 pub returns-then-j-written : goal.returns-then-j-written

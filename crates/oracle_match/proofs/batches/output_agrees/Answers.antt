@@ -1,6 +1,5 @@
 use mathlib.Core.Path.{sym, ◌∙◌}
 use lib.Ieee.{of_bits}
-use borrow.Author.Rules.{rules}
 use Rattle.oracle_match.proofs.batches.output_agrees.Goals as goal
 
 pub returns-then-written-eq0 : goal.returns-then-written-eq0

@@ -2,7 +2,6 @@ use native.Mathlib.Omega.{arith}
 use native.Mathlib.Nat.{mul-le-mul_right}
 use lib.Ieee.{of_bits}
 use Rattle.oracle_list.proofs.WordLaws.{not-matched}
-use borrow.Author.Rules.{rules}
 use Rattle.oracle_match.proofs.batches.written_agree.Goals as goal
 
 pub returns-then-n-eq0 : goal.returns-then-n-eq0

@@ -1,6 +1,3 @@
-use borrow.Author.Tests.{not-false}
-use Rattle.oracle_list.proofs.WordLaws.{not-matched}
-use borrow.Author.Rules.{rules}
 use Rattle.oracle_match.proofs.fits.both_agree.Goals as goal
 
 pub returns-clause-cells_agree : goal.returns-clause-cells_agree

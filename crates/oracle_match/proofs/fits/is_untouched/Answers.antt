@@ -1,6 +1,5 @@
 use lib.Ieee.{of_bits, neg}
 use Rattle.oracle_match.proofs.Untouched.{Untouched-first, Untouched-second}
-use borrow.Author.Rules.{rules}
 use Rattle.oracle_match.proofs.fits.is_untouched.Goals as goal
 
 pub returns-then-is_filled : goal.returns-then-is_filled

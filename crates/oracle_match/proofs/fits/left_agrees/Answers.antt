@@ -1,5 +1,4 @@
 use mathlib.Core.Path.{sym, ◌∙◌}
-use borrow.Author.Rules.{rules}
 use Rattle.oracle_match.proofs.fits.left_agrees.Goals as goal
 
 pub returns-then-answer-ne0 : goal.returns-then-answer-ne0

@@ -1,8 +1,6 @@
 use mathlib.Core.Path.{sym, ◌∙◌}
 use lib.Ieee.{of_bits, neg}
-use borrow.Author.Tests.{not-false}
 use Rattle.oracle_list.proofs.WordLaws.{not-matched}
-use borrow.Author.Rules.{rules}
 use Rattle.oracle_match.proofs.lists.is_kept.Goals as goal
 
 pub returns-then-not-same_cells : goal.returns-then-not-same_cells

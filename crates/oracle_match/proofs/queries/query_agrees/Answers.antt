@@ -1,6 +1,4 @@
-use borrow.Author.Tests.{not-false}
 use Rattle.oracle_list.proofs.WordLaws.{not-matched}
-use borrow.Author.Rules.{rules}
 use Rattle.oracle_match.proofs.queries.query_agrees.Goals as goal
 
 pub returns-then-not-is_number : goal.returns-then-not-is_number

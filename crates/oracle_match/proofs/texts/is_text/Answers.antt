@@ -1,7 +1,6 @@
 use native.Mathlib.Omega.{arith}
 use lib.ListN.{length-take}
 use Rattle.oracle_list.proofs.WordLaws.{not-matched}
-use borrow.Author.Rules.{rules}
 use Rattle.oracle_match.proofs.texts.is_text.Goals as goal
 
 pub returns-then-n-out : goal.returns-then-n-out

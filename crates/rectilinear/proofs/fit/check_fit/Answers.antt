@@ -1,6 +1,5 @@
 use mathlib.Core.Path.{◌≡◌, sym, ◌∙◌}
 use native.Mathlib.Omega.{arith}
-use borrow.Author.Rules.{rules}
 use lib.ListN.{length, take}
 use Rattle.shape.specs.Checks.{first_refusal, shape_checks}
 use Rattle.shape.specs.Sizes.{coeff_storage_len}

@@ -1,9 +1,8 @@
-use mathlib.Core.Path.{◌≡◌, sym, ap, ◌∙◌}
+use mathlib.Core.Path.{sym, ap, ◌∙◌}
 use mathlib.Core.List.{List}
 use native.Mathlib.Omega.{arith}
 use lib.ListN.{length, take}
 use lib.Ieee.{Float, binary64}
-use borrow.Author.Rules.{rules}
 use Rattle.shape.proofs.Fitted.{fitted-refused, fitted-accepted}
 use Rattle.rectilinear.specs.Fit.{rectilinear_fit, rectilinear_scratch}
 use Rattle.rectilinear.proofs.Total.{FitAccepted, fit-range}

@@ -2,11 +2,9 @@ use mathlib.Core.Path.{◌≡◌, ◌∙◌}
 use Prim.Native.Nat.{◌-◌, ◌≤◌}
 use native.Mathlib.Omega.{arith}
 use lib.ListN.{length, take}
-use lib.Ieee.{binary64, nan}
-use borrow.Author.Rules.{rules}
+use lib.Ieee.{nan}
 use Rattle.shape.proofs.Accepted.{axes-are}
-use Rattle.shape.proofs.Loops.{AxesSolved, axes-start, axes-step, axes-coefs, axes-scratch}
-use Rattle.rectilinear.specs.Fit.{solve, upper}
+use Rattle.shape.proofs.Loops.{axes-start, axes-step, axes-coefs, axes-scratch}
 use Rattle.rectilinear.proofs.fit.solve_axes.Goals as goal
 
 pub loop-axis-init : goal.loop-axis-init

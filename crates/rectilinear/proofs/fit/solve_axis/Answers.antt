@@ -1,9 +1,7 @@
 use mathlib.Core.Path.{◌≡◌}
-use Prim.Native.Nat.{◌≤◌}
 use native.Mathlib.Omega.{arith}
 use lib.ListN.{length, take}
 use lib.Ieee.{binary64, nan}
-use borrow.Author.Rules.{rules}
 use Rattle.shape.proofs.Accepted.{axis-is, axis-within}
 use Rattle.shape.proofs.Lines.{axis-coefs, axis-scratch}
 use Rattle.lanes.proofs.Groups.{axis-whole}

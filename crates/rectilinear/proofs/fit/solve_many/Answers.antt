@@ -1,5 +1,4 @@
 use native.Mathlib.Omega.{arith}
-use borrow.Author.Rules.{rules}
 use lib.ListN.{length}
 use lib.Ieee.{binary64}
 use Rattle.shape.proofs.Lines.{first-cell-room}
@@ -63,4 +62,4 @@ returns-clause-scratch_after c =
     let low = ghost_numbers a.low_ghost in
     let high = ghost_numbers a.high_ghost in
     let w = c.requires.lines_nonzero.1 in axis-leaves (upper_number binary64 ks low high) (coefficient binary64 ks low high) (length ks) a.s a.lines a.m a.coeffs.now a.scratch.now w c.requires.lines_nonzero.0 (looks-coefficient binary64 ks low high w.four-points)
-          _ _ _ _ (upper-same binary64 ks low high zero_samples) c.first_cell_of-base.ensures c.upper_numbers.ensures c.solve_in_place.ensures c.keep_line.ensures
+    _ _ _ _ (upper-same binary64 ks low high zero_samples) c.first_cell_of-base.ensures c.upper_numbers.ensures c.solve_in_place.ensures c.keep_line.ensures

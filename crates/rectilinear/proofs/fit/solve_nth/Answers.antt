@@ -1,6 +1,5 @@
 use lib.ListN.{length}
 use lib.Ieee.{binary64, nan}
-use borrow.Author.Rules.{rules}
 use Rattle.shape.proofs.Lines.{first-cell-room, line-room, nth-coefs, nth-scratch}
 use Rattle.rectilinear_weights.specs.Records.{ghost_numbers}
 use Rattle.rectilinear_lines.specs.Rows.{coefficient, upper_number}

@@ -3,7 +3,7 @@ use Prim.Native.Nat.{◌+◌, ◌*◌, ◌-◌, ◌≤◌}
 use native.Mathlib.Omega.{arith}
 use lib.ListN.{get_or}
 use Rattle.rectilinear_axis.specs.Axis.{moved_at}
-use Rattle.rectilinear_axis.proofs.Cells.{CellsSoFar, cells-start, cells-next, cells-done}
+use Rattle.rectilinear_axis.proofs.Cells.{cells-start, cells-next, cells-done}
 use Rattle.rectilinear_axis.proofs.places.move_firsts.Goals as goal
 
 pub loop-k-init : goal.loop-k-init
@@ -14,30 +14,51 @@ loc_of-loc-requires c = c.requires.le_n.0
 
 pub overflow_mul-spots : goal.overflow_mul-spots
 unfolding moved_at
-overflow_mul-spots c = omega (arith, (let small' : let l = c.loop-k in
-    get_or l.spots l.k 0 + c.loc_of-loc.result.origin * c.args.stride ≤ 33554432 = omega (arith, (let moved' : let l = c.loop-k in
-    let a = c.args in
-    get_or l.spots l.k 0 + c.loc_of-loc.result.origin * a.stride ≡ moved_at a.n a.stride a.into a.spots.now l.k = let l = c.loop-k in
-    let w = l.invariant.so_far in
-    rw (w.after l.k (omega arith), c.loc_of-loc.ensures, w.after (c.args.into + l.k) (omega (arith, c.requires.le_n.1, c.loop-k-test.true))) in moved'), c.requires.by_index c.loop-k.k c.loop-k-test.true) in small'))
+overflow_mul-spots c = omega (
+  arith,
+  (let small' : let l = c.loop-k in
+      get_or l.spots l.k 0 + c.loc_of-loc.result.origin * c.args.stride ≤ 33554432 = omega (
+        arith,
+        (let moved' : let l = c.loop-k in
+            let a = c.args in
+            get_or l.spots l.k 0 + c.loc_of-loc.result.origin * a.stride ≡ moved_at a.n a.stride a.into a.spots.now l.k = let l = c.loop-k in
+            let w = l.invariant.so_far in
+            rw (w.after l.k (omega arith), c.loc_of-loc.ensures, w.after (c.args.into + l.k) (omega (arith, c.requires.le_n.1, c.loop-k-test.true))) in moved'),
+        c.requires.by_index c.loop-k.k c.loop-k-test.true,
+      ) in small'),
+)
 
 pub offset_bounds-spots-k : goal.offset_bounds-spots-k
 unfolding moved_at
-offset_bounds-spots-k c = omega (arith, (let small' : let l = c.loop-k in
-    get_or l.spots l.k 0 + c.loc_of-loc.result.origin * c.args.stride ≤ 33554432 = omega (arith, (let moved' : let l = c.loop-k in
-    let a = c.args in
-    get_or l.spots l.k 0 + c.loc_of-loc.result.origin * a.stride ≡ moved_at a.n a.stride a.into a.spots.now l.k = let l = c.loop-k in
-    let w = l.invariant.so_far in
-    rw (w.after l.k (omega arith), c.loc_of-loc.ensures, w.after (c.args.into + l.k) (omega (arith, c.requires.le_n.1, c.loop-k-test.true))) in moved'), c.requires.by_index c.loop-k.k c.loop-k-test.true) in small'))
+offset_bounds-spots-k c = omega (
+  arith,
+  (let small' : let l = c.loop-k in
+      get_or l.spots l.k 0 + c.loc_of-loc.result.origin * c.args.stride ≤ 33554432 = omega (
+        arith,
+        (let moved' : let l = c.loop-k in
+            let a = c.args in
+            get_or l.spots l.k 0 + c.loc_of-loc.result.origin * a.stride ≡ moved_at a.n a.stride a.into a.spots.now l.k = let l = c.loop-k in
+            let w = l.invariant.so_far in
+            rw (w.after l.k (omega arith), c.loc_of-loc.ensures, w.after (c.args.into + l.k) (omega (arith, c.requires.le_n.1, c.loop-k-test.true))) in moved'),
+        c.requires.by_index c.loop-k.k c.loop-k-test.true,
+      ) in small'),
+)
 
 pub overflow_add-spots : goal.overflow_add-spots
 unfolding moved_at
-overflow_add-spots c = omega (arith, (let small' : let l = c.loop-k in
-    get_or l.spots l.k 0 + c.loc_of-loc.result.origin * c.args.stride ≤ 33554432 = omega (arith, (let moved' : let l = c.loop-k in
-    let a = c.args in
-    get_or l.spots l.k 0 + c.loc_of-loc.result.origin * a.stride ≡ moved_at a.n a.stride a.into a.spots.now l.k = let l = c.loop-k in
-    let w = l.invariant.so_far in
-    rw (w.after l.k (omega arith), c.loc_of-loc.ensures, w.after (c.args.into + l.k) (omega (arith, c.requires.le_n.1, c.loop-k-test.true))) in moved'), c.requires.by_index c.loop-k.k c.loop-k-test.true) in small'))
+overflow_add-spots c = omega (
+  arith,
+  (let small' : let l = c.loop-k in
+      get_or l.spots l.k 0 + c.loc_of-loc.result.origin * c.args.stride ≤ 33554432 = omega (
+        arith,
+        (let moved' : let l = c.loop-k in
+            let a = c.args in
+            get_or l.spots l.k 0 + c.loc_of-loc.result.origin * a.stride ≡ moved_at a.n a.stride a.into a.spots.now l.k = let l = c.loop-k in
+            let w = l.invariant.so_far in
+            rw (w.after l.k (omega arith), c.loc_of-loc.ensures, w.after (c.args.into + l.k) (omega (arith, c.requires.le_n.1, c.loop-k-test.true))) in moved'),
+        c.requires.by_index c.loop-k.k c.loop-k-test.true,
+      ) in small'),
+)
 
 pub loop-k-preserved : goal.loop-k-preserved
 unfolding moved_at

@@ -1,9 +1,6 @@
-use mathlib.Core.Path.{◌≡◌}
-use Prim.Native.Nat.{◌+◌, ◌*◌, ◌-◌, ◌≤◌}
-use native.Mathlib.Omega.{arith}
-use lib.ListN.{get_or}
+use Prim.Native.Nat.{◌-◌}
 use Rattle.rectilinear_axis.specs.Axis.{moved_at}
-use Rattle.rectilinear_axis.proofs.Cells.{CellsSoFar, cells-start, cells-next, cells-done}
+use Rattle.rectilinear_axis.proofs.Cells.{CellsSoFar}
 use Rattle.rectilinear_axis.proofs.places.move_firsts.Given as goal
 
 abbrev pub invariant-loop-k : goal.invariant-loop-k

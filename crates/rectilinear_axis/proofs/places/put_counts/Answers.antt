@@ -1,8 +1,7 @@
 use mathlib.Core.Path.{refl}
 use Prim.Native.Nat.{◌-◌}
-use native.Mathlib.Omega.{arith}
 use Rattle.rectilinear_axis.specs.Axis.{count_at}
-use Rattle.rectilinear_axis.proofs.Cells.{CellsSoFar, cells-start, cells-next, cells-done}
+use Rattle.rectilinear_axis.proofs.Cells.{cells-start, cells-next, cells-done}
 use Rattle.rectilinear_axis.proofs.places.put_counts.Goals as goal
 
 pub loop-k-init : goal.loop-k-init

@@ -1,8 +1,6 @@
-use mathlib.Core.Path.{refl}
 use Prim.Native.Nat.{◌-◌}
-use native.Mathlib.Omega.{arith}
 use Rattle.rectilinear_axis.specs.Axis.{count_at}
-use Rattle.rectilinear_axis.proofs.Cells.{CellsSoFar, cells-start, cells-next, cells-done}
+use Rattle.rectilinear_axis.proofs.Cells.{CellsSoFar}
 use Rattle.rectilinear_axis.proofs.places.put_counts.Given as goal
 
 abbrev pub invariant-loop-k : goal.invariant-loop-k

@@ -1,9 +1,6 @@
 use Prim.Native.Nat.{◌-◌}
 use native.Mathlib.Omega.{arith}
-use lib.Ieee.{binary64}
-use Rattle.rectilinear_weights.specs.Records.{ghost_numbers}
-use Rattle.evaluation.proofs.Rows.{RowsSoFar, rows-begin, rows-room, rows_next, rows-done}
-use Rattle.rectilinear_axis.specs.Axis.{slopes_at}
+use Rattle.evaluation.proofs.Rows.{rows-begin, rows-room, rows_next, rows-done}
 use Rattle.rectilinear_axis.proofs.slopes.put_slopes.Goals as goal
 
 pub loop-k-init : goal.loop-k-init

@@ -1,8 +1,7 @@
 use Prim.Native.Nat.{◌-◌}
-use native.Mathlib.Omega.{arith}
 use lib.Ieee.{binary64}
 use Rattle.rectilinear_weights.specs.Records.{ghost_numbers}
-use Rattle.evaluation.proofs.Rows.{RowsSoFar, rows-begin, rows-room, rows_next, rows-done}
+use Rattle.evaluation.proofs.Rows.{RowsSoFar}
 use Rattle.rectilinear_axis.specs.Axis.{weights_at}
 use Rattle.rectilinear_axis.proofs.weights.put_weights.Given as goal
 

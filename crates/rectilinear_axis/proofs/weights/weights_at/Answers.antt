@@ -2,8 +2,6 @@ use Prim.Native.Nat.{◌+◌, ◌<◌}
 use native.Mathlib.Omega.{arith}
 use lib.ListN.{length}
 use lib.Ieee.{binary64}
-use borrow.Author.Rules.{rules}
-use borrow.Author.Tests.{ltb-true}
 use Rattle.knots.proofs.Places.{get-loc-within}
 use Rattle.rectilinear_axis.specs.Axis.{place_weights}
 use Rattle.rectilinear_axis.proofs.Located.{place_is, inner-is}

@@ -1,6 +1,5 @@
 use mathlib.Core.Path.{◌∙◌}
 use lib.Ieee.{binary64}
-use borrow.Author.Rules.{rules}
 use Rattle.rectilinear_basis.proofs.Knots.{six-knots, by-six}
 use Rattle.rectilinear_basis.proofs.basis.basis_span_weights.Goals as goal
 

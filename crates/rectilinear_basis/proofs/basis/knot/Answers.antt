@@ -1,7 +1,6 @@
 use Prim.Native.Nat.{◌-◌, ◌^◌}
 use native.Mathlib.Omega.{arith}
 use borrow.Author.Tests.{lt-ltb, le-ltb}
-use borrow.Author.Rules.{rules}
 use lib.Dec.{le→leb}
 use lib.ListN.{length}
 use lib.Ieee.{binary64, in_float}

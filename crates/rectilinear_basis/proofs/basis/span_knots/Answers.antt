@@ -1,6 +1,5 @@
 use native.Mathlib.Omega.{arith}
 use lib.Ieee.{binary64}
-use borrow.Author.Rules.{rules}
 use Rattle.rectilinear_basis.proofs.Knots.{six-knots, six-inner}
 use Rattle.rectilinear_basis.proofs.basis.span_knots.Goals as goal
 

@@ -1,4 +1,3 @@
-use borrow.Author.Rules.{rules}
 use Rattle.rectilinear_basis.specs.Between.{weights_between}
 use Rattle.rectilinear_basis.proofs.basis.weights_between.Goals as goal
 

@@ -3,7 +3,6 @@ use Prim.Native.Nat.{◌*◌, ◌≤◌}
 use native.Mathlib.Omega.{arith}
 use lib.ListN.{length}
 use lib.Ieee.{binary64}
-use borrow.Author.Rules.{rules}
 use Rattle.evaluation.proofs.ByAxis.{entries-reach, block-gradients, block-slopes}
 use Rattle.evaluation.proofs.Entries.{last-stride}
 use Rattle.evaluation.proofs.Stages.{room_as, four-behind}

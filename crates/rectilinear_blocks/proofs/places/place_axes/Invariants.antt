@@ -1,14 +1,9 @@
 use Prim.Native.Nat.{◌-◌}
-use native.Mathlib.Nat.{mul-le-mul_left}
-use native.Mathlib.Omega.{arith}
 use lib.Ieee.{binary64}
-use Rattle.evaluation.proofs.Stages.{Placing, placing-start, placing-small, placing-done}
-use Rattle.evaluation.proofs.Weighed.{block_inside}
+use Rattle.evaluation.proofs.Stages.{Placing}
 use Rattle.rectilinear_blocks.specs.Eval.{rectilinear_axes}
 use Rattle.rectilinear_blocks.specs.Block.{KeptIn}
 use Rattle.rectilinear_blocks.specs.Records.{map_of}
-use Rattle.rectilinear_blocks.proofs.Room.{roomy}
-use Rattle.rectilinear_blocks.proofs.Stages.{placing-next}
 use Rattle.rectilinear_blocks.proofs.places.place_axes.Given as goal
 
 abbrev pub invariant-loop-a : goal.invariant-loop-a

@@ -1,5 +1,4 @@
 use native.Mathlib.Omega.{arith}
-use borrow.Author.Rules.{rules}
 use Rattle.rectilinear_blocks.proofs.Room.{axis-sound, knots-cells}
 use Rattle.rectilinear_blocks.proofs.places.place_next.Goals as goal
 

@@ -1,11 +1,9 @@
 use mathlib.Core.Path.{refl}
-use Prim.Native.Nat.{◌+◌, ◌*◌, ◌-◌, ◌≤◌}
+use Prim.Native.Nat.{◌+◌, ◌-◌, ◌≤◌}
 use native.Mathlib.Nat.{mul-le-mul_left, mul-add}
 use native.Mathlib.Omega.{arith}
-use lib.Ieee.{binary64}
-use Rattle.evaluation.proofs.Rows.{AxesSoFar, axes-begin, axes-next, axes-done}
+use Rattle.evaluation.proofs.Rows.{axes-begin, axes-next, axes-done}
 use Rattle.evaluation.proofs.Stages.{axis-room}
-use Rattle.rectilinear_blocks.specs.Block.{slopes_for}
 use Rattle.rectilinear_blocks.specs.Records.{map_of}
 use Rattle.rectilinear_blocks.proofs.Stages.{counted-on}
 use Rattle.rectilinear_blocks.proofs.rows.slope_axes.Goals as goal

@@ -1,13 +1,8 @@
-use mathlib.Core.Path.{refl}
-use Prim.Native.Nat.{◌+◌, ◌*◌, ◌-◌, ◌≤◌}
-use native.Mathlib.Nat.{mul-le-mul_left, mul-add}
-use native.Mathlib.Omega.{arith}
+use Prim.Native.Nat.{◌*◌, ◌-◌}
 use lib.Ieee.{binary64}
-use Rattle.evaluation.proofs.Rows.{AxesSoFar, axes-begin, axes-next, axes-done}
-use Rattle.evaluation.proofs.Stages.{axis-room}
+use Rattle.evaluation.proofs.Rows.{AxesSoFar}
 use Rattle.rectilinear_blocks.specs.Block.{slopes_for}
 use Rattle.rectilinear_blocks.specs.Records.{map_of}
-use Rattle.rectilinear_blocks.proofs.Stages.{counted-on}
 use Rattle.rectilinear_blocks.proofs.rows.slope_axes.Given as goal
 
 abbrev pub invariant-loop-a : goal.invariant-loop-a

@@ -1,6 +1,5 @@
 use native.Mathlib.Omega.{arith}
 use lib.Ieee.{binary64}
-use borrow.Author.Rules.{rules}
 use Rattle.rectilinear_blocks.proofs.Room.{axis-sound}
 use Rattle.rectilinear_blocks.proofs.Stages.{slopes-rows}
 use Rattle.rectilinear_blocks.proofs.rows.slope_next.Goals as goal

@@ -1,10 +1,8 @@
 use mathlib.Core.Path.{refl}
 use Prim.Native.Nat.{◌-◌}
 use native.Mathlib.Omega.{arith}
-use lib.Ieee.{binary64}
-use Rattle.evaluation.proofs.Rows.{AxesSoFar, axes-begin, axes-next, axes-done}
+use Rattle.evaluation.proofs.Rows.{axes-begin, axes-next, axes-done}
 use Rattle.evaluation.proofs.Stages.{axis-room, room_as}
-use Rattle.rectilinear_blocks.specs.Block.{weights_for}
 use Rattle.rectilinear_blocks.specs.Records.{map_of}
 use Rattle.rectilinear_blocks.proofs.Stages.{counted-on}
 use Rattle.rectilinear_blocks.proofs.rows.weigh_axes.Goals as goal

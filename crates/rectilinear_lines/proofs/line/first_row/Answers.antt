@@ -1,4 +1,3 @@
-use borrow.Author.Rules.{rules}
 use lib.Ieee.{binary64, nan}
 use Rattle.shape.specs.Cells.{line}
 use Rattle.rectilinear_weights.specs.Records.{ghost_numbers}

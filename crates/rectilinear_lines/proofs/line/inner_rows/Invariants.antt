@@ -1,11 +1,8 @@
 use Prim.Native.Nat.{◌-◌}
-use native.Mathlib.Omega.{arith}
-use borrow.Author.Rules.{rules}
-use lib.ListN.{length}
 use lib.Ieee.{binary64, nan}
 use Rattle.shape.specs.Cells.{line}
 use Rattle.multibspline.specs.Records.{reduced_of}
-use Rattle.multibspline.proofs.Sweeps.{Eliminated, elim-start, elim-step, elim-last, elim-done}
+use Rattle.multibspline.proofs.Sweeps.{Eliminated}
 use Rattle.rectilinear_lines.specs.Rows.{inner_row}
 use Rattle.rectilinear_lines.proofs.line.inner_rows.Given as goal
 

@@ -1,6 +1,5 @@
 use mathlib.Core.Path.{refl}
 use lib.Ieee.{of_bits}
-use borrow.Author.Rules.{rules}
 use Rattle.rectilinear_lines.specs.Rows.{low_row}
 use Rattle.rectilinear_lines.proofs.line.low_row.Goals as goal
 

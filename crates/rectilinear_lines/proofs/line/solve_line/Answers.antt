@@ -1,4 +1,3 @@
-use borrow.Author.Rules.{rules}
 use lib.ListN.{length}
 use Rattle.shape.proofs.Fitted.{fitted-refused, fitted-accepted}
 use Rattle.multibspline.proofs.Line.{line-fits}

@@ -1,11 +1,10 @@
-use mathlib.Core.Path.{◌≡◌, refl, ◌∙◌}
+use mathlib.Core.Path.{◌≡◌}
 use Prim.Native.Nat.{◌-◌}
-use native.Mathlib.Omega.{arith}
 use lib.ListN.{length}
 use lib.Ieee.{binary64}
 use Rattle.evaluation.specs.Batch.{bad_at, gradient_step}
 use Rattle.evaluation.specs.Spline.{Spline}
-use Rattle.evaluation.proofs.Batches.{Running, running-start, block-next, block-stop, running-done}
+use Rattle.evaluation.proofs.Batches.{Running}
 use Rattle.rectilinear_blocks.specs.Eval.{rectilinear}
 use Rattle.rectilinear_blocks.specs.Records.{map_of}
 use Rattle.rectilinear_map.proofs.blocks.gradient_blocks.Given as goal

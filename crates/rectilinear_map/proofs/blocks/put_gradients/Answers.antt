@@ -1,5 +1,4 @@
 use lib.Dec.{lit≤}
-use borrow.Author.Rules.{rules}
 use Rattle.rectilinear_map.proofs.blocks.put_gradients.Goals as goal
 
 pub gradient_blocks-requires-clause-accepted : goal.gradient_blocks-requires-clause-accepted

@@ -1,13 +1,7 @@
-use mathlib.Core.Path.{◌≡◌, refl, ◌∙◌}
+use mathlib.Core.Path.{refl, ◌∙◌}
 use Prim.Native.Nat.{◌-◌}
 use native.Mathlib.Omega.{arith}
-use lib.ListN.{length}
-use lib.Ieee.{binary64}
-use Rattle.evaluation.specs.Batch.{bad_at, value_step}
-use Rattle.evaluation.specs.Spline.{Spline}
-use Rattle.evaluation.proofs.Batches.{Running, running-start, block-next, block-stop, running-done}
-use Rattle.rectilinear_blocks.specs.Eval.{rectilinear}
-use Rattle.rectilinear_blocks.specs.Records.{map_of}
+use Rattle.evaluation.proofs.Batches.{running-start, block-next, block-stop, running-done}
 use Rattle.rectilinear_map.proofs.blocks.value_blocks.Goals as goal
 
 pub loop-from-init : goal.loop-from-init

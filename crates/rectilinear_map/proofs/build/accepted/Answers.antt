@@ -1,5 +1,4 @@
 use mathlib.Core.Path.{refl}
-use borrow.Author.Rules.{rules}
 use Rattle.rectilinear_map.specs.Map.{made}
 use Rattle.rectilinear_map.proofs.build.accepted.Goals as goal
 

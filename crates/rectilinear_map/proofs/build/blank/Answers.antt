@@ -1,4 +1,3 @@
-use borrow.Author.Rules.{rules}
 use Rattle.rectilinear_map.proofs.build.blank.Goals as goal
 
 pub returns : goal.returns

@@ -1,5 +1,4 @@
 use native.Mathlib.Omega.{arith}
-use borrow.Author.Rules.{rules}
 use Rattle.evaluation.proofs.Builds.{built-refused, built-accepted}
 use Rattle.rectilinear_map.proofs.Checks.{told-sound}
 use Rattle.rectilinear_map.proofs.build.build.Goals as goal

@@ -1,7 +1,5 @@
-use mathlib.Core.Path.{◌≡◌, sym, ◌∙◌}
+use mathlib.Core.Path.{sym, ◌∙◌}
 use native.Mathlib.Omega.{arith}
-use borrow.Author.Rules.{rules}
-use borrow.Author.Tests.{not-true, not-false}
 use Rattle.shape.proofs.Accepted.{told-accepted, usable}
 use Rattle.rectilinear_map.proofs.Checks.{map-shape, map-grid, map-coefs, map-falls, map-passed}
 use Rattle.rectilinear_map.proofs.build.check_map.Goals as goal

@@ -1,7 +1,6 @@
-use mathlib.Core.Path.{◌≡◌, sym, ap, ◌∙◌}
+use mathlib.Core.Path.{sym, ap, ◌∙◌}
 use native.Mathlib.Omega.{arith}
 use lib.ListN.{length}
-use borrow.Author.Rules.{rules}
 use Rattle.shape.specs.Refusal.{answer_number}
 use Rattle.evaluation.proofs.Builds.{built-refused, built-accepted}
 use Rattle.rectilinear_map.proofs.Checks.{fit-gridded}

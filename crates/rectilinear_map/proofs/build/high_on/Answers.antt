@@ -1,6 +1,4 @@
-use mathlib.Core.Path.{◌≡◌, ◌∙◌}
 use native.Mathlib.Omega.{arith}
-use borrow.Author.Rules.{rules}
 use borrow.Author.Tests.{lt-ltb, le-ltb}
 use Rattle.rectilinear_blocks.proofs.Room.{four-knots}
 use Rattle.rectilinear_map.proofs.build.high_on.Goals as goal

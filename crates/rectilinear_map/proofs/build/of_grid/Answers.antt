@@ -1,6 +1,5 @@
-use mathlib.Core.Path.{◌≡◌, refl, sym, ◌∙◌}
+use mathlib.Core.Path.{refl, sym, ◌∙◌}
 use native.Mathlib.Omega.{arith}
-use borrow.Author.Rules.{rules}
 use Rattle.shape.specs.declared.answers.Refusal.TheVariants.{DimensionMismatch}
 use Rattle.shape.specs.declared.answers.Answer.TheVariants.{Accepted}
 use Rattle.shape.proofs.Accepted.{told-accepted, usable}

@@ -1,5 +1,4 @@
 use mathlib.Core.Path.{refl}
-use borrow.Author.Rules.{rules}
 use Rattle.rectilinear_map.proofs.build.refused.Goals as goal
 
 pub returns : goal.returns

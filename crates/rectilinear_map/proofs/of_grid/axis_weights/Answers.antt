@@ -1,6 +1,5 @@
 use native.Mathlib.Omega.{arith}
 use lib.Ieee.{binary64}
-use borrow.Author.Rules.{rules}
 use Rattle.rectilinear_blocks.proofs.Room.{four-knots}
 use Rattle.rectilinear_map.proofs.OwnGhosts.{own-weights}
 use Rattle.rectilinear_map.proofs.of_grid.axis_weights.Goals as goal

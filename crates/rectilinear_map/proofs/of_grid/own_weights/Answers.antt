@@ -1,4 +1,3 @@
-use borrow.Author.Rules.{rules}
 use Rattle.knots.proofs.Places.{get-loc-within}
 use Rattle.rectilinear_weights.specs.Weights.{interp_weights}
 use Rattle.rectilinear_axis.specs.Axis.{place_weights}

@@ -1,11 +1,7 @@
 use mathlib.Core.Path.{◌≡◌}
 use Prim.Native.Nat.{◌+◌, ◌-◌}
 use native.Mathlib.Omega.{arith}
-use lib.Ieee.{binary64}
-use Rattle.evaluation.specs.Axes.{query}
-use Rattle.evaluation.proofs.Rows.{RowsSoFar, rows-begin, rows_next, rows-done}
-use Rattle.rectilinear_blocks.specs.Eval.{weights_on}
-use Rattle.rectilinear_map.specs.Map.{of_grid}
+use Rattle.evaluation.proofs.Rows.{rows-begin, rows_next, rows-done}
 use Rattle.rectilinear_map.proofs.of_grid.put_weights.Goals as goal
 
 pub loop-a-init : goal.loop-a-init

@@ -1,9 +1,7 @@
-use mathlib.Core.Path.{◌≡◌}
-use Prim.Native.Nat.{◌+◌, ◌-◌}
-use native.Mathlib.Omega.{arith}
+use Prim.Native.Nat.{◌-◌}
 use lib.Ieee.{binary64}
 use Rattle.evaluation.specs.Axes.{query}
-use Rattle.evaluation.proofs.Rows.{RowsSoFar, rows-begin, rows_next, rows-done}
+use Rattle.evaluation.proofs.Rows.{RowsSoFar}
 use Rattle.rectilinear_blocks.specs.Eval.{weights_on}
 use Rattle.rectilinear_map.specs.Map.{of_grid}
 use Rattle.rectilinear_map.proofs.of_grid.put_weights.Given as goal

@@ -1,7 +1,6 @@
 use native.Mathlib.Omega.{arith}
 use lib.ListN.{length}
 use lib.Ieee.{binary64}
-use borrow.Author.Rules.{rules}
 use Rattle.shape.specs.declared.answers.Refusal.TheVariants.{DimensionMismatch}
 use Rattle.evaluation.proofs.Outcomes.{one-refused, one-checks, one-length, one-answered}
 use Rattle.rectilinear_blocks.specs.Eval.{map_answer}

@@ -1,6 +1,5 @@
 use native.Mathlib.Omega.{arith}
 use mathlib.Core.Path.{◌∙◌}
-use borrow.Author.Rules.{rules}
 use Rattle.rectilinear_blocks.proofs.Room.{axis-sound}
 use Rattle.rectilinear_map.proofs.Checks.{told-sound}
 use Rattle.rectilinear_map.proofs.Placing.{grid-refused, grid-passed, placed-refused, placed-no-axis, placed_at}

@@ -1,7 +1,6 @@
 use mathlib.Core.Path.{refl}
 use native.Mathlib.Omega.{arith}
 use lib.Ieee.{of_bits}
-use borrow.Author.Rules.{rules}
 use Rattle.evaluation.proofs.Singles.{single-gradient, single-gradient-refused}
 use Rattle.rectilinear_map.proofs.single.gradient_at.Goals as goal
 

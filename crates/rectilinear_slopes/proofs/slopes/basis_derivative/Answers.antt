@@ -1,4 +1,3 @@
-use borrow.Author.Rules.{rules}
 use lib.Ieee.{of_bits}
 use Rattle.rectilinear_slopes.proofs.slopes.basis_derivative.Goals as goal
 

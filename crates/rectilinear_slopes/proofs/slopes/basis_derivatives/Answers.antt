@@ -1,4 +1,3 @@
-use borrow.Author.Rules.{rules}
 use Rattle.rectilinear_slopes.proofs.slopes.basis_derivatives.Goals as goal
 
 pub returns : goal.returns

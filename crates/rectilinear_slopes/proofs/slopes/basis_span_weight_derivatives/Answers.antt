@@ -1,4 +1,3 @@
-use borrow.Author.Rules.{rules}
 use Rattle.rectilinear_slopes.specs.Slopes.{basis_span_weight_derivatives, lagrange_derivative}
 use Rattle.rectilinear_slopes.proofs.slopes.basis_span_weight_derivatives.Goals as goal
 

@@ -1,6 +1,5 @@
 use mathlib.Core.Path.{refl}
 use lib.Ieee.{of_bits}
-use borrow.Author.Rules.{rules}
 use Rattle.rectilinear_slopes.proofs.slopes.lagrange_derivative.Goals as goal
 
 pub returns : goal.returns

@@ -1,5 +1,4 @@
 use lib.Ieee.{binary64}
-use borrow.Author.Rules.{rules}
 use Rattle.rectilinear_slopes.specs.Slopes.{sampled, column}
 use Rattle.rectilinear_basis.proofs.Knots.{between-six}
 use Rattle.rectilinear_slopes.proofs.slopes.sampled.Goals as goal

@@ -1,5 +1,4 @@
 use mathlib.Core.Path.{refl}
-use borrow.Author.Rules.{rules}
 use lib.Ieee.{of_bits}
 use Rattle.rectilinear_slopes.specs.Slopes.{span_samples}
 use Rattle.rectilinear_slopes.proofs.slopes.span_samples.Goals as goal

@@ -1,4 +1,3 @@
-use borrow.Author.Rules.{rules}
 use lib.Ieee.{of_bits}
 use Rattle.rectilinear_slopes.specs.Slopes.{span_weight_third_derivatives}
 use Rattle.rectilinear_slopes.proofs.slopes.span_weight_third_derivatives.Goals as goal

@@ -1,5 +1,4 @@
 use mathlib.Core.Path.{refl}
-use borrow.Author.Rules.{rules}
 use Rattle.rectilinear_slopes.specs.Slopes.{third_divided_difference}
 use Rattle.rectilinear_slopes.proofs.slopes.third_divided_difference.Goals as goal
 

@@ -1,8 +1,7 @@
 use Prim.Native.Nat.{◌-◌}
-use borrow.Author.Rules.{rules}
 use lib.ListN.{length}
 use lib.Ieee.{binary64}
-use Rattle.lanes.proofs.Turns.{Up, up_start, up_step, up_done}
+use Rattle.lanes.proofs.Turns.{Up}
 use Rattle.rectilinear_sweeps.specs.Sweeps.{inner_at}
 use Rattle.rectilinear_sweeps.proofs.bundle.bundle_eliminate.Given as goal
 

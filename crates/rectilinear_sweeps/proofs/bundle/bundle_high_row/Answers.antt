@@ -1,4 +1,3 @@
-use borrow.Author.Rules.{rules}
 use lib.Ieee.{binary64}
 use Rattle.rectilinear_weights.specs.Records.{ghost_numbers}
 use Rattle.rectilinear_sweeps.proofs.Sweeps.{high-swept}

@@ -1,5 +1,4 @@
 use native.Mathlib.Omega.{arith}
-use borrow.Author.Rules.{rules}
 use lib.Ieee.{binary64}
 use Rattle.rectilinear_sweeps.proofs.Sweeps.{inner-swept}
 use Rattle.rectilinear_sweeps.proofs.bundle.bundle_inner_row.Goals as goal

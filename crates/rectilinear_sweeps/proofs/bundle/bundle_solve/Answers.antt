@@ -1,5 +1,4 @@
 use native.Mathlib.Omega.{arith}
-use borrow.Author.Rules.{rules}
 use lib.Ieee.{binary64}
 use Rattle.lanes.proofs.Rows.{laid-swept}
 use Rattle.lanes.proofs.Turns.{laid-up}

@@ -1,10 +1,5 @@
 use Prim.Native.Nat.{◌-◌}
-use borrow.Author.Rules.{rules}
-use lib.ListN.{length}
-use lib.Ieee.{binary64}
-use Rattle.lanes.proofs.Groups.{SolvedTo, to_start, to_step, to-done}
-use Rattle.rectilinear_weights.specs.Records.{ghost_numbers}
-use Rattle.rectilinear_lines.specs.Rows.{coefficient}
+use Rattle.lanes.proofs.Groups.{to_start, to_step, to-done}
 use Rattle.rectilinear_sweeps.proofs.bundle.solve_ends.Goals as goal
 
 pub loop-first-init : goal.loop-first-init

@@ -1,8 +1,7 @@
 use Prim.Native.Nat.{◌-◌}
-use borrow.Author.Rules.{rules}
 use lib.ListN.{length}
 use lib.Ieee.{binary64}
-use Rattle.lanes.proofs.Groups.{SolvedTo, to_start, to_step, to-done}
+use Rattle.lanes.proofs.Groups.{SolvedTo}
 use Rattle.rectilinear_weights.specs.Records.{ghost_numbers}
 use Rattle.rectilinear_lines.specs.Rows.{coefficient}
 use Rattle.rectilinear_sweeps.proofs.bundle.solve_ends.Given as goal

@@ -1,5 +1,4 @@
 use mathlib.Core.Path.{refl}
-use borrow.Author.Rules.{rules}
 use Rattle.rectilinear_sweeps.specs.Sweeps.{high_factor}
 use Rattle.rectilinear_sweeps.proofs.ends.high_factor.Goals as goal
 

@@ -1,5 +1,4 @@
 use mathlib.Core.Path.{refl}
-use borrow.Author.Rules.{rules}
 use Rattle.rectilinear_sweeps.specs.Sweeps.{low_factor}
 use Rattle.rectilinear_sweeps.proofs.ends.low_factor.Goals as goal
 

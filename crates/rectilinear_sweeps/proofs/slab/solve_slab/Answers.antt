@@ -1,5 +1,4 @@
 use native.Mathlib.Omega.{arith}
-use borrow.Author.Rules.{rules}
 use Rattle.lanes.proofs.Groups.{laid-slab, slab-first}
 use Rattle.rectilinear_sweeps.proofs.slab.solve_slab.Goals as goal
 

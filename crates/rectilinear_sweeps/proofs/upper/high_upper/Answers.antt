@@ -1,4 +1,3 @@
-use borrow.Author.Rules.{rules}
 use Rattle.rectilinear_sweeps.proofs.upper.high_upper.Goals as goal
 
 pub returns : goal.returns

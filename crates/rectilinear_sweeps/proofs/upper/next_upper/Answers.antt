@@ -1,5 +1,4 @@
 use mathlib.Core.Path.{refl}
-use borrow.Author.Rules.{rules}
 use lib.Ieee.{binary64}
 use Rattle.rectilinear_weights.specs.Records.{ghost_numbers}
 use Rattle.rectilinear_sweeps.proofs.Sweeps.{next-first, next_last, next-inner}

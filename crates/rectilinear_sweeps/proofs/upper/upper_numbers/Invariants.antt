@@ -1,13 +1,10 @@
 use Prim.Native.Nat.{◌-◌}
-use borrow.Author.Rules.{rules}
 use lib.ListN.{length}
 use lib.Ieee.{binary64}
 use Rattle.lanes.specs.Lanes.{zero_samples}
-use Rattle.lanes.proofs.Groups.{Filled, filled-start, uppers-step, filled-done}
+use Rattle.lanes.proofs.Groups.{Filled}
 use Rattle.rectilinear_weights.specs.Records.{ghost_numbers}
 use Rattle.rectilinear_lines.specs.Rows.{upper_number}
-use Rattle.rectilinear_sweeps.specs.Sweeps.{upper_next}
-use Rattle.rectilinear_sweeps.proofs.Sweeps.{upper_first, upper-next}
 use Rattle.rectilinear_sweeps.proofs.upper.upper_numbers.Given as goal
 
 abbrev pub invariant-loop-i : goal.invariant-loop-i

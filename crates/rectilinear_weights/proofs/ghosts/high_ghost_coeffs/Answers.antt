@@ -1,4 +1,3 @@
-use borrow.Author.Rules.{rules}
 use Rattle.rectilinear_weights.specs.Ghosts.{high_ghost_coeffs}
 use Rattle.rectilinear_weights.proofs.ghosts.high_ghost_coeffs.Goals as goal
 

@@ -1,4 +1,3 @@
-use borrow.Author.Rules.{rules}
 use lib.Ieee.{of_bits}
 use Rattle.rectilinear_weights.specs.Weights.{fold_low}
 use Rattle.rectilinear_weights.proofs.weights.fold_low.Goals as goal

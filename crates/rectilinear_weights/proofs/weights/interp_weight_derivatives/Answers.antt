@@ -1,4 +1,3 @@
-use borrow.Author.Rules.{rules}
 use Rattle.rectilinear_weights.specs.Weights.{interp_weight_derivatives}
 use Rattle.rectilinear_weights.proofs.weights.interp_weight_derivatives.Goals as goal
 

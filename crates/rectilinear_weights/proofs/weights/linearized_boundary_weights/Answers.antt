@@ -1,4 +1,3 @@
-use borrow.Author.Rules.{rules}
 use Rattle.rectilinear_weights.specs.Weights.{linearized_boundary_weights}
 use Rattle.rectilinear_weights.proofs.weights.linearized_boundary_weights.Goals as goal
 

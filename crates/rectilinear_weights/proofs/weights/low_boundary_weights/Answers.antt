@@ -1,4 +1,3 @@
-use borrow.Author.Rules.{rules}
 use Rattle.rectilinear_weights.proofs.weights.low_boundary_weights.Goals as goal
 
 pub returns-then-linearize_extrapolation : goal.returns-then-linearize_extrapolation

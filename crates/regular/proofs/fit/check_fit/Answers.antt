@@ -1,6 +1,5 @@
 use mathlib.Core.Path.{◌≡◌, sym, ◌∙◌}
 use native.Mathlib.Omega.{arith}
-use borrow.Author.Rules.{rules}
 use Rattle.shape.specs.Checks.{first_refusal, shape_checks}
 use Rattle.shape.proofs.Accepted.{told-accepted}
 use Rattle.regular.proofs.FitChecks.{fit-shape, fit-coefs, fit-samples, fit-scratch, fit_passed}

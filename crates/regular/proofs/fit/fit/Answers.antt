@@ -1,13 +1,11 @@
-use mathlib.Core.Path.{◌≡◌, sym, ap, ◌∙◌}
+use mathlib.Core.Path.{sym, ap, ◌∙◌}
 use mathlib.Core.List.{List}
-use Prim.Native.Nat.{◌≤◌}
 use native.Mathlib.Omega.{arith}
 use lib.ListN.{length, take}
 use lib.Ieee.{Float, binary64}
-use borrow.Author.Rules.{rules}
 use Rattle.shape.proofs.Fitted.{fitted-refused, fitted-accepted}
 use Rattle.regular.specs.Fit.{regular_fit, regular_scratch}
-use Rattle.regular.proofs.Total.{InRange, fit-range}
+use Rattle.regular.proofs.Total.{fit-range}
 use Rattle.regular.proofs.fit.fit.Goals as goal
 
 pub returns-in-Refused : goal.returns-in-Refused

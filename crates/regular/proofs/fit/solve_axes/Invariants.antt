@@ -1,11 +1,7 @@
-use mathlib.Core.Path.{◌≡◌, sym, ◌∙◌}
-use Prim.Native.Nat.{◌-◌, ◌≤◌, ◌<◌}
-use native.Mathlib.Omega.{arith}
-use lib.ListN.{length, take}
+use Prim.Native.Nat.{◌-◌}
+use lib.ListN.{take}
 use lib.Ieee.{binary64, nan}
-use borrow.Author.Rules.{rules}
-use Rattle.shape.proofs.Accepted.{axes-are}
-use Rattle.shape.proofs.Loops.{AxesSolved, axes-start, axes-step, axes-coefs, axes-scratch}
+use Rattle.shape.proofs.Loops.{AxesSolved}
 use Rattle.regular.specs.Fit.{solve, upper}
 use Rattle.regular.proofs.fit.solve_axes.Given as goal
 

@@ -2,8 +2,7 @@ use mathlib.Core.Path.{◌≡◌, refl, ap}
 use native.Mathlib.Omega.{arith}
 use lib.ListN.{length, take}
 use lib.Ieee.{binary64, nan}
-use borrow.Author.Rules.{rules}
-use Rattle.shape.proofs.Accepted.{AxisIs, axis-is, axis-within}
+use Rattle.shape.proofs.Accepted.{axis-is, axis-within}
 use Rattle.shape.proofs.Lines.{axis-coefs, axis-scratch}
 use Rattle.lanes.proofs.Groups.{axis-whole}
 use Rattle.regular_lines.specs.Rows.{coefficient, upper_number}

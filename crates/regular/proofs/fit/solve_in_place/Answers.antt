@@ -1,4 +1,3 @@
-use borrow.Author.Rules.{rules}
 use Rattle.lanes.proofs.Groups.{by-bundles, by-slabs, slabs-room}
 use Rattle.regular.proofs.fit.solve_in_place.Goals as goal
 

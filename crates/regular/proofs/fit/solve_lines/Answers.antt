@@ -1,5 +1,4 @@
 use native.Mathlib.Omega.{arith}
-use borrow.Author.Rules.{rules}
 use lib.Ieee.{binary64}
 use Rattle.lanes.proofs.Groups.{lone-coefs, lone-leaves}
 use Rattle.regular_lines.specs.Rows.{coefficient, upper_number}

@@ -1,7 +1,6 @@
 use native.Mathlib.Omega.{arith}
-use Prim.Native.Nat.{◌-◌, ◌<◌}
-use borrow.Author.Rules.{rules}
-use lib.Ieee.{binary64, nan}
+use Prim.Native.Nat.{◌-◌}
+use lib.Ieee.{binary64}
 use Rattle.shape.proofs.Lines.{first-cell-room}
 use Rattle.lanes.specs.Lanes.{zero_samples}
 use Rattle.lanes.proofs.Groups.{lines-room, uppers-hold, keep-room, axis-leaves}
@@ -47,4 +46,4 @@ pub returns-clause-scratch_after : goal.returns-clause-scratch_after
 returns-clause-scratch_after c =
     let a = c.args in
     let w = c.requires.lines_nonzero.1 in axis-leaves (upper_number binary64 a.n) (coefficient binary64 a.n) a.n a.s a.lines a.m a.coeffs.now a.scratch.now w c.requires.lines_nonzero.0 (looks-coefficient binary64 a.n w.four-points)
-          _ _ _ _ (upper-same binary64 a.n zero_samples) c.first_cell_of-base.ensures c.upper_numbers.ensures c.solve_in_place.ensures c.keep_line.ensures
+    _ _ _ _ (upper-same binary64 a.n zero_samples) c.first_cell_of-base.ensures c.upper_numbers.ensures c.solve_in_place.ensures c.keep_line.ensures

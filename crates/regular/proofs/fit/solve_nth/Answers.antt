@@ -1,5 +1,4 @@
 use lib.Ieee.{binary64, nan}
-use borrow.Author.Rules.{rules}
 use Rattle.shape.proofs.Lines.{first-cell-room, line-room, nth-coefs, nth-scratch}
 use Rattle.regular_lines.specs.Rows.{coefficient, upper_number}
 use Rattle.regular.proofs.fit.solve_nth.Goals as goal

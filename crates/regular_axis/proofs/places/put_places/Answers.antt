@@ -2,7 +2,7 @@ use mathlib.Core.Path.{◌∙◌}
 use Prim.Native.Nat.{◌-◌}
 use native.Mathlib.Omega.{arith}
 use lib.Ieee.{binary64}
-use Rattle.regular_axis.proofs.Placing.{Placing, placing-start, placing-next, placing-stop, placing-done}
+use Rattle.regular_axis.proofs.Placing.{placing-start, placing-next, placing-stop, placing-done}
 use mathlib.Core.Path.{ap}
 use mathlib.Core.Bool.{not}
 use Rattle.regular_axis.proofs.places.put_places.Goals as goal

@@ -1,8 +1,6 @@
-use mathlib.Core.Path.{◌∙◌}
 use Prim.Native.Nat.{◌-◌}
-use native.Mathlib.Omega.{arith}
 use lib.Ieee.{binary64}
-use Rattle.regular_axis.proofs.Placing.{Placing, placing-start, placing-next, placing-stop, placing-done}
+use Rattle.regular_axis.proofs.Placing.{Placing}
 use Rattle.regular_axis.proofs.places.put_places.Given as goal
 
 abbrev pub invariant-loop-k : goal.invariant-loop-k

@@ -1,4 +1,3 @@
-use borrow.Author.Rules.{rules}
 use Rattle.regular_axis.proofs.Placing.{sat-last}
 use Rattle.regular_axis.proofs.places.sat_of.Goals as goal
 

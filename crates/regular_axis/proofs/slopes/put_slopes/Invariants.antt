@@ -1,10 +1,7 @@
 use Prim.Native.Nat.{◌-◌}
-use native.Mathlib.Omega.{arith}
 use lib.Ieee.{binary64}
-use Rattle.regular_weights.proofs.Lengths.{length-derivatives}
-use Rattle.evaluation.proofs.Rows.{RowsSoFar, rows-begin, rows-done}
+use Rattle.evaluation.proofs.Rows.{RowsSoFar}
 use Rattle.regular_axis.specs.Axis.{slope_row}
-use Rattle.regular_axis.proofs.Rowing.{slopes-next}
 use Rattle.regular_axis.proofs.slopes.put_slopes.Given as goal
 
 abbrev pub invariant-loop-k : goal.invariant-loop-k

@@ -1,5 +1,3 @@
-use native.Mathlib.Omega.{arith}
-use borrow.Author.Rules.{rules}
 use Rattle.regular_axis.proofs.slopes.slope_row.Goals as goal
 
 pub put_row-requires : goal.put_row-requires

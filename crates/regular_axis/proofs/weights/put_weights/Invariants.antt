@@ -1,10 +1,7 @@
 use Prim.Native.Nat.{◌-◌}
-use native.Mathlib.Omega.{arith}
 use lib.Ieee.{binary64}
-use Rattle.regular_weights.proofs.Lengths.{length-weights}
-use Rattle.evaluation.proofs.Rows.{RowsSoFar, rows-begin, rows-done}
+use Rattle.evaluation.proofs.Rows.{RowsSoFar}
 use Rattle.regular_axis.specs.Axis.{weight_row}
-use Rattle.regular_axis.proofs.Rowing.{weights-next}
 use Rattle.regular_axis.proofs.weights.put_weights.Given as goal
 
 abbrev pub invariant-loop-k : goal.invariant-loop-k

@@ -1,6 +1,4 @@
 use lib.Ieee.{binary64}
-use native.Mathlib.Omega.{arith}
-use borrow.Author.Rules.{rules}
 use Rattle.regular_weights.proofs.Inner.{inner-weights}
 use Rattle.regular_axis.proofs.weights.weigh_row.Goals as goal
 

@@ -1,13 +1,9 @@
-use mathlib.Core.Path.{◌≡◌, refl, ◌∙◌}
-use mathlib.Core.Bool.{Bool, true}
+use mathlib.Core.Path.{refl, ◌∙◌}
+use mathlib.Core.Bool.{true}
 use Prim.Native.Nat.{◌-◌}
 use native.Mathlib.Omega.{arith}
-use lib.ListN.{length}
 use lib.Ieee.{binary64}
-use Rattle.evaluation.proofs.Stages.{axis-room, room_as, Placing, placing-start, placing-small, placing-done}
-use Rattle.regular_blocks.specs.Map.{map_from}
-use Rattle.regular_blocks.specs.Eval.{regular_axes}
-use Rattle.regular_blocks.specs.Block.{KeptIn}
+use Rattle.evaluation.proofs.Stages.{axis-room, room_as, placing-start, placing-small, placing-done}
 use Rattle.regular_blocks.proofs.Room.{roomy}
 use Rattle.regular_blocks.proofs.Stages.{axis-ready, placing-next}
 use Rattle.regular_blocks.proofs.places.place_axes.Goals as goal

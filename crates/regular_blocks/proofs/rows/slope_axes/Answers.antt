@@ -3,8 +3,7 @@ use Prim.Native.Nat.{◌+◌, ◌*◌, ◌-◌, ◌≤◌}
 use native.Mathlib.Nat.{mul-le-mul_left, mul-add}
 use native.Mathlib.Omega.{arith}
 use lib.Ieee.{binary64}
-use Rattle.evaluation.proofs.Rows.{AxesSoFar, axes-begin, axes-next, axes-done}
-use Rattle.regular_blocks.specs.Block.{slope_rows}
+use Rattle.evaluation.proofs.Rows.{axes-begin, axes-next, axes-done}
 use Rattle.regular_blocks.proofs.Stages.{slopes-wait}
 use Rattle.regular_blocks.proofs.rows.slope_axes.Goals as goal
 

@@ -1,11 +1,7 @@
-use mathlib.Core.Path.{◌≡◌}
-use Prim.Native.Nat.{◌+◌, ◌*◌, ◌-◌, ◌≤◌}
-use native.Mathlib.Nat.{mul-le-mul_left, mul-add}
-use native.Mathlib.Omega.{arith}
+use Prim.Native.Nat.{◌*◌, ◌-◌}
 use lib.Ieee.{binary64}
-use Rattle.evaluation.proofs.Rows.{AxesSoFar, axes-begin, axes-next, axes-done}
+use Rattle.evaluation.proofs.Rows.{AxesSoFar}
 use Rattle.regular_blocks.specs.Block.{slope_rows}
-use Rattle.regular_blocks.proofs.Stages.{slopes-wait}
 use Rattle.regular_blocks.proofs.rows.slope_axes.Given as goal
 
 abbrev pub invariant-loop-a : goal.invariant-loop-a

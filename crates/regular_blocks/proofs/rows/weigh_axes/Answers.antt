@@ -2,8 +2,7 @@ use Prim.Native.Nat.{◌-◌}
 use native.Mathlib.Nat.{mul-le-mul_left}
 use native.Mathlib.Omega.{arith}
 use lib.Ieee.{binary64}
-use Rattle.evaluation.proofs.Rows.{AxesSoFar, axes-begin, axes-next, axes-done}
-use Rattle.regular_blocks.specs.Block.{weight_rows}
+use Rattle.evaluation.proofs.Rows.{axes-begin, axes-next, axes-done}
 use Rattle.regular_blocks.proofs.Stages.{weights-wait}
 use Rattle.regular_blocks.proofs.rows.weigh_axes.Goals as goal
 

@@ -1,10 +1,7 @@
 use Prim.Native.Nat.{◌-◌}
-use native.Mathlib.Nat.{mul-le-mul_left}
-use native.Mathlib.Omega.{arith}
 use lib.Ieee.{binary64}
-use Rattle.evaluation.proofs.Rows.{AxesSoFar, axes-begin, axes-next, axes-done}
+use Rattle.evaluation.proofs.Rows.{AxesSoFar}
 use Rattle.regular_blocks.specs.Block.{weight_rows}
-use Rattle.regular_blocks.proofs.Stages.{weights-wait}
 use Rattle.regular_blocks.proofs.rows.weigh_axes.Given as goal
 
 abbrev pub invariant-loop-a : goal.invariant-loop-a

@@ -1,5 +1,4 @@
 use lib.Ieee.{neg, of_bits}
-use borrow.Author.Rules.{rules}
 use Rattle.regular_lines.proofs.line.first_row.Goals as goal
 
 pub returns : goal.returns

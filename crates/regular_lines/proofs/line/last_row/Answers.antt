@@ -1,6 +1,5 @@
 use Prim.Native.Nat.{◌-◌}
 use lib.Ieee.{binary64, nan, neg, of_bits}
-use borrow.Author.Rules.{rules}
 use Rattle.shape.specs.Cells.{line}
 use Rattle.multibspline.specs.Records.{reduced_of}
 use Rattle.multibspline.proofs.Sweeps.{row_kept}

@@ -1,13 +1,7 @@
-use mathlib.Core.Path.{◌≡◌, refl, ◌∙◌}
+use mathlib.Core.Path.{refl, ◌∙◌}
 use Prim.Native.Nat.{◌-◌}
 use native.Mathlib.Omega.{arith}
-use lib.ListN.{length}
-use lib.Ieee.{binary64}
-use Rattle.evaluation.specs.Batch.{bad_at, gradient_step}
-use Rattle.evaluation.specs.Spline.{Spline}
-use Rattle.evaluation.proofs.Batches.{Running, running-start, block-next, block-stop, running-done}
-use Rattle.regular_blocks.specs.Checks.{regular}
-use Rattle.regular_blocks.specs.Records.{map_of}
+use Rattle.evaluation.proofs.Batches.{running-start, block-next, block-stop, running-done}
 use Rattle.regular_map.proofs.blocks.gradient_blocks.Goals as goal
 
 pub loop-from-init : goal.loop-from-init
@@ -25,17 +19,16 @@ gradients_block-good-requires-clause-accepted c =
 pub gradients_block-good-requires-clause-room : goal.gradients_block-good-requires-clause-room
 gradients_block-good-requires-clause-room c =
     let b = c.block_size-m.ensures in
-    let w = c.loop-from.invariant in
-    (
-        record {
-          block = b.1;
-          batch = b.2;
-          coordinates = c.requires.n_in_bounds.0;
-          in-spots = omega (arith, c.requires.accepted.0.shape.at-most-four, c.requires.n_in_bounds.2, w.1.0);
-          in-work = omega (arith, c.requires.accepted.0.shape.at-most-four, c.requires.n_in_bounds.3, w.1.1);
-        },
-        omega (arith, c.requires.accepted.0.shape.at-most-four, c.requires.n_in_bounds.3, w.1.1),
-      )
+    let w = c.loop-from.invariant in (
+      record {
+        block = b.1;
+        batch = b.2;
+        coordinates = c.requires.n_in_bounds.0;
+        in-spots = omega (arith, c.requires.accepted.0.shape.at-most-four, c.requires.n_in_bounds.2, w.1.0);
+        in-work = omega (arith, c.requires.accepted.0.shape.at-most-four, c.requires.n_in_bounds.3, w.1.1);
+      },
+      omega (arith, c.requires.accepted.0.shape.at-most-four, c.requires.n_in_bounds.3, w.1.1),
+    )
 
 pub shape_of-spots-then-good-m : goal.shape_of-spots-then-good-m
 shape_of-spots-then-good-m c = c.gradients_block-good.auto.spots ∙ c.loop-from.invariant.1.0

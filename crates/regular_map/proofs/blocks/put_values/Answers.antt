@@ -1,5 +1,4 @@
 use lib.Dec.{lit≤}
-use borrow.Author.Rules.{rules}
 use Rattle.regular_map.proofs.blocks.put_values.Goals as goal
 
 pub value_blocks-requires-clause-accepted : goal.value_blocks-requires-clause-accepted

@@ -1,11 +1,10 @@
-use mathlib.Core.Path.{◌≡◌, refl, ◌∙◌}
+use mathlib.Core.Path.{◌≡◌}
 use Prim.Native.Nat.{◌-◌}
-use native.Mathlib.Omega.{arith}
 use lib.ListN.{length}
 use lib.Ieee.{binary64}
 use Rattle.evaluation.specs.Batch.{bad_at, value_step}
 use Rattle.evaluation.specs.Spline.{Spline}
-use Rattle.evaluation.proofs.Batches.{Running, running-start, block-next, block-stop, running-done}
+use Rattle.evaluation.proofs.Batches.{Running}
 use Rattle.regular_blocks.specs.Checks.{regular}
 use Rattle.regular_blocks.specs.Records.{map_of}
 use Rattle.regular_map.proofs.blocks.value_blocks.Given as goal

@@ -1,5 +1,4 @@
 use mathlib.Core.Path.{refl}
-use borrow.Author.Rules.{rules}
 use Rattle.regular_map.specs.Map.{made}
 use Rattle.regular_map.proofs.build.accepted.Goals as goal
 

@@ -1,9 +1,7 @@
-use mathlib.Core.Path.{◌≡◌, refl, sym, ◌∙◌}
-use Prim.Native.Nat.{◌≤◌, ◌-◌}
+use mathlib.Core.Path.{refl, sym, ◌∙◌}
+use Prim.Native.Nat.{◌-◌}
 use native.Mathlib.Omega.{arith}
 use lib.Ieee.{of_bits}
-use lib.ListN.{take, drop}
-use Rattle.regular_blocks.specs.Checks.{any_step_bad}
 use Rattle.regular_map.proofs.Steps.{bad-cons, bad-end}
 use Rattle.regular_map.proofs.build.any_step_bad.Goals as goal
 

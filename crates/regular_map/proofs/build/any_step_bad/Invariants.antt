@@ -1,10 +1,7 @@
-use mathlib.Core.Path.{◌≡◌, refl, sym, ◌∙◌}
+use mathlib.Core.Path.{◌≡◌}
 use Prim.Native.Nat.{◌≤◌, ◌-◌}
-use native.Mathlib.Omega.{arith}
-use lib.Ieee.{of_bits}
 use lib.ListN.{take, drop}
 use Rattle.regular_blocks.specs.Checks.{any_step_bad}
-use Rattle.regular_map.proofs.Steps.{bad-cons, bad-end}
 use Rattle.regular_map.proofs.build.any_step_bad.Given as goal
 
 abbrev pub invariant-loop-i : goal.invariant-loop-i

@@ -1,4 +1,3 @@
-use borrow.Author.Rules.{rules}
 use Rattle.evaluation.proofs.Builds.{built-refused, built-accepted}
 use Rattle.regular_map.proofs.build.build.Goals as goal
 

@@ -2,7 +2,6 @@ use mathlib.Core.Path.{◌≡◌, sym, ap, ◌∙◌}
 use mathlib.Core.Bool.{Bool, cond}
 use native.Mathlib.Omega.{arith}
 use lib.ListN.{length}
-use borrow.Author.Rules.{rules}
 use Rattle.shape.proofs.Accepted.{told-accepted, usable}
 use Rattle.regular_map.proofs.Steps.{map-shape, map-coefs, map_steps}
 use Rattle.regular_map.proofs.build.check_map.Goals as goal

@@ -1,6 +1,5 @@
 use native.Mathlib.Omega.{arith}
 use lib.Ieee.{binary64}
-use borrow.Author.Rules.{rules}
 use Rattle.regular_map.proofs.Steps.{map-usable}
 use Rattle.regular_map.proofs.Placing.{record-refused, record-passed, placed-refused, placed-no-axis, placed_at, placed-nowhere}
 use Rattle.regular_map.proofs.place.place.Goals as goal

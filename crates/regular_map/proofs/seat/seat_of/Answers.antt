@@ -1,5 +1,4 @@
 use lib.Ieee.{binary64}
-use borrow.Author.Rules.{rules}
 use Rattle.regular_map.proofs.OneQuery.{seat-small, seat-at, seat-none}
 use Rattle.regular_map.proofs.seat.seat_of.Goals as goal
 

@@ -1,5 +1,4 @@
 use lib.Ieee.{binary64}
-use borrow.Author.Rules.{rules}
 use Rattle.regular_weights.proofs.Inner.{inner-weights}
 use Rattle.regular_map.proofs.seat.weights_of.Goals as goal
 

@@ -1,7 +1,6 @@
 use mathlib.Core.Path.{refl, ◌∙◌}
 use native.Mathlib.Omega.{arith}
 use lib.Ieee.{binary64}
-use borrow.Author.Rules.{rules}
 use Rattle.regular_map.proofs.OneQuery.{looked-axis, looked-refused, looked-small, looked-on, last-reaches, last-value, turned-2}
 use Rattle.regular_map.proofs.single.from_axis_2.Goals as goal
 

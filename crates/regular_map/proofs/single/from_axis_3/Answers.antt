@@ -1,7 +1,6 @@
 use mathlib.Core.Path.{◌≡◌, refl, ◌∙◌}
 use native.Mathlib.Omega.{arith}
 use lib.Ieee.{binary64}
-use borrow.Author.Rules.{rules}
 use Rattle.regular_map.proofs.OneQuery.{looked-axis, looked-refused, last-reaches, last-value, turned-3}
 use Rattle.regular_map.proofs.single.from_axis_3.Goals as goal
 

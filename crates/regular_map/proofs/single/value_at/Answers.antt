@@ -4,7 +4,6 @@ use Prim.Native.Nat.{◌+◌, ◌*◌}
 use native.Mathlib.Omega.{arith}
 use lib.ListN.{get_or}
 use lib.Ieee.{binary64}
-use borrow.Author.Rules.{rules}
 use Rattle.interp_math.proofs.Tables.{lanes-none}
 use Rattle.regular_map.proofs.OneQuery.{looked-start, looked-axis, looked-refused, looked-small, looked-on, last-reaches, last-value}
 use Rattle.regular_map.proofs.single.value_at.Goals as goal

@@ -1,7 +1,6 @@
 use Prim.Native.Nat.{◌-◌}
-use borrow.Author.Rules.{rules}
 use lib.Ieee.{binary64}
-use Rattle.lanes.proofs.Turns.{Up, up_start, up_step, up_done}
+use Rattle.lanes.proofs.Turns.{Up}
 use Rattle.regular_sweeps.specs.Sweeps.{inner_at}
 use Rattle.regular_sweeps.proofs.bundle.bundle_eliminate.Given as goal
 

@@ -1,4 +1,3 @@
-use borrow.Author.Rules.{rules}
 use lib.Ieee.{neg, of_bits}
 use Rattle.regular_sweeps.specs.Sweeps.{last_at}
 use Rattle.regular_sweeps.proofs.bundle.bundle_last_row.Goals as goal

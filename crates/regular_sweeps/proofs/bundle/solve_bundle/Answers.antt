@@ -1,4 +1,3 @@
-use borrow.Author.Rules.{rules}
 use Rattle.lanes.proofs.Groups.{laid-bundle}
 use Rattle.regular_sweeps.proofs.bundle.solve_bundle.Goals as goal
 

@@ -1,9 +1,5 @@
 use Prim.Native.Nat.{◌-◌}
-use native.Mathlib.Omega.{arith}
-use borrow.Author.Rules.{rules}
-use lib.Ieee.{binary64}
-use Rattle.lanes.proofs.Groups.{SolvedTo, to_start, to_step, to-done}
-use Rattle.regular_lines.specs.Rows.{coefficient}
+use Rattle.lanes.proofs.Groups.{to_start, to_step, to-done}
 use Rattle.regular_sweeps.proofs.bundle.solve_ends.Goals as goal
 
 pub loop-first-init : goal.loop-first-init

@@ -1,8 +1,6 @@
 use Prim.Native.Nat.{◌-◌}
-use native.Mathlib.Omega.{arith}
-use borrow.Author.Rules.{rules}
 use lib.Ieee.{binary64}
-use Rattle.lanes.proofs.Groups.{SolvedTo, to_start, to_step, to-done}
+use Rattle.lanes.proofs.Groups.{SolvedTo}
 use Rattle.regular_lines.specs.Rows.{coefficient}
 use Rattle.regular_sweeps.proofs.bundle.solve_ends.Given as goal
 

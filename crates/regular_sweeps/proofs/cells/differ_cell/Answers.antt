@@ -1,5 +1,4 @@
 use mathlib.Core.Path.{refl}
-use borrow.Author.Rules.{rules}
 use Rattle.regular_sweeps.specs.Sweeps.{differ_cell}
 use Rattle.regular_sweeps.proofs.cells.differ_cell.Goals as goal
 

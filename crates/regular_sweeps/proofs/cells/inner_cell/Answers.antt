@@ -1,5 +1,4 @@
 use mathlib.Core.Path.{refl}
-use borrow.Author.Rules.{rules}
 use lib.Ieee.{neg, of_bits}
 use Rattle.regular_sweeps.specs.Sweeps.{inner_cell}
 use Rattle.regular_sweeps.proofs.cells.inner_cell.Goals as goal

@@ -1,8 +1,6 @@
 use Prim.Native.Nat.{◌-◌}
-use native.Mathlib.Omega.{arith}
-use borrow.Author.Rules.{rules}
 use lib.Ieee.{binary64}
-use Rattle.lanes.proofs.Rows.{Swept, sweep-start, sweep-step-1, sweep-done}
+use Rattle.lanes.proofs.Rows.{Swept}
 use Rattle.regular_sweeps.specs.Sweeps.{differ_cell}
 use Rattle.regular_sweeps.proofs.slab.slab_differ_sweep.Given as goal
 

@@ -1,8 +1,5 @@
 use Prim.Native.Nat.{◌-◌}
-use borrow.Author.Rules.{rules}
-use lib.Ieee.{binary64}
-use Rattle.lanes.proofs.Turns.{Up, up_start, up_step, up_done}
-use Rattle.regular_sweeps.specs.Sweeps.{inner_at}
+use Rattle.lanes.proofs.Turns.{up_start, up_step, up_done}
 use Rattle.regular_sweeps.proofs.slab.slab_eliminate.Goals as goal
 
 pub loop-i-init : goal.loop-i-init

@@ -1,8 +1,5 @@
 use Prim.Native.Nat.{◌-◌}
-use borrow.Author.Rules.{rules}
-use lib.Ieee.{binary64}
-use Rattle.lanes.proofs.Groups.{Slabs, slabs-start, slabs-step, slabs-done}
-use Rattle.regular_lines.specs.Rows.{coefficient}
+use Rattle.lanes.proofs.Groups.{slabs-start, slabs-step, slabs-done}
 use Rattle.regular_sweeps.proofs.slab.solve_slabs.Goals as goal
 
 pub loop-k-init : goal.loop-k-init

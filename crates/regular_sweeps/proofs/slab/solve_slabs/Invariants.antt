@@ -1,7 +1,6 @@
 use Prim.Native.Nat.{◌-◌}
-use borrow.Author.Rules.{rules}
 use lib.Ieee.{binary64}
-use Rattle.lanes.proofs.Groups.{Slabs, slabs-start, slabs-step, slabs-done}
+use Rattle.lanes.proofs.Groups.{Slabs}
 use Rattle.regular_lines.specs.Rows.{coefficient}
 use Rattle.regular_sweeps.proofs.slab.solve_slabs.Given as goal
 

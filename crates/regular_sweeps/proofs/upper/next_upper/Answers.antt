@@ -1,4 +1,3 @@
-use borrow.Author.Rules.{rules}
 use borrow.Author.Tests.{eq-eqb, ne_eqb}
 use lib.Ieee.{neg, of_bits}
 use Rattle.regular_sweeps.specs.Sweeps.{upper_next}

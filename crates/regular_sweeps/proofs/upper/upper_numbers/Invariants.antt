@@ -1,11 +1,8 @@
 use Prim.Native.Nat.{◌-◌}
-use borrow.Author.Rules.{rules}
 use lib.Ieee.{binary64}
-use Rattle.lanes.proofs.Groups.{Filled, filled-start, uppers-step, filled-done}
+use Rattle.lanes.proofs.Groups.{Filled}
 use Rattle.lanes.specs.Lanes.{zero_samples}
 use Rattle.regular_lines.specs.Rows.{upper_number}
-use Rattle.regular_sweeps.specs.Sweeps.{upper_next}
-use Rattle.regular_sweeps.proofs.Sweeps.{upper_first, upper-next}
 use Rattle.regular_sweeps.proofs.upper.upper_numbers.Given as goal
 
 abbrev pub invariant-loop-i : goal.invariant-loop-i

@@ -1,4 +1,3 @@
-use Rattle.std.proofs.Common.{rules}
 use Rattle.regular_weights.specs.Place.{get_loc}
 use Rattle.regular_weights.proofs.place.get_loc.Goals as goal
 

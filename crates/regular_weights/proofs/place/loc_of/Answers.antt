@@ -1,4 +1,4 @@
-use Rattle.std.proofs.Common.{◌≡◌, T, pos, sym, ◌∙◌, subst, rules}
+use Rattle.std.proofs.Common.{◌≡◌, T, pos, sym, ◌∙◌, subst}
 use lib.Ieee.{binary64, neg, of_bits}
 use lib.IntN.{pred_ℤ}
 use Rattle.regular_weights.specs.Place.{loc_of_cell, loc_of}

@@ -1,4 +1,4 @@
-use Rattle.std.proofs.Common.{refl, arith, rules}
+use Rattle.std.proofs.Common.{refl, arith}
 use lib.Ieee.{binary64}
 use Rattle.regular_weights.specs.Place.{past_origin}
 use Rattle.regular_weights.proofs.Whole.{whole-held}

@@ -1,4 +1,3 @@
-use Rattle.std.proofs.Common.{rules}
 use lib.Ieee.{neg, of_bits}
 use Rattle.regular_weights.specs.Weights.{fold_high}
 use Rattle.regular_weights.proofs.weights.fold_high.Goals as goal

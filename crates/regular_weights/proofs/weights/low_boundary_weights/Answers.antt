@@ -1,4 +1,4 @@
-use Rattle.std.proofs.Common.{ap, ◌∙◌, rules}
+use Rattle.std.proofs.Common.{ap, ◌∙◌}
 use lib.Ieee.{binary64}
 use Rattle.regular_weights.specs.Weights.{fold_low}
 use Rattle.regular_weights.proofs.weights.low_boundary_weights.Goals as goal

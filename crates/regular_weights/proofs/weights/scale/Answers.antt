@@ -1,4 +1,4 @@
-use Rattle.std.proofs.Common.{sym, rules}
+use Rattle.std.proofs.Common.{sym}
 use lib.Ieee.{binary64}
 use Rattle.regular_weights.proofs.Lengths.{scaled-four}
 use Rattle.regular_weights.proofs.weights.scale.Goals as goal

@@ -1,4 +1,3 @@
-use Rattle.std.proofs.Common.{rules}
 use lib.Ieee.{of_bits}
 use Rattle.regular_weights.specs.Weights.{span_derivatives}
 use Rattle.regular_weights.proofs.weights.span_derivatives.Goals as goal

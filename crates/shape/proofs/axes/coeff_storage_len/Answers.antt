@@ -1,6 +1,5 @@
 use mathlib.Core.Path.{sym, ◌∙◌}
 use native.Mathlib.Omega.{arith}
-use borrow.Author.Rules.{rules}
 use Rattle.shape.specs.Sizes.{coeff_storage_len}
 use Rattle.shape.proofs.Accepted.{storage-is, told-accepted, told-refused, usable}
 use Rattle.shape.proofs.axes.coeff_storage_len.Goals as goal

@@ -1,6 +1,5 @@
 use mathlib.Core.Path.{sym, ◌∙◌}
 use native.Mathlib.Omega.{arith}
-use borrow.Author.Rules.{rules}
 use Rattle.shape.specs.Sizes.{construction_scratch_len}
 use Rattle.shape.proofs.Accepted.{scratch-is, told-accepted, told-refused, usable}
 use Rattle.shape.proofs.axes.construction_scratch_len.Goals as goal

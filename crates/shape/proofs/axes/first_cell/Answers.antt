@@ -1,5 +1,4 @@
 use native.Mathlib.Omega.{arith}
-use borrow.Author.Rules.{rules}
 use Rattle.shape.proofs.Accepted.{told-accepted, usable}
 use Rattle.shape.proofs.Found.{found-refused, found_none, found_at}
 use Rattle.shape.proofs.axes.first_cell.Goals as goal

@@ -1,6 +1,5 @@
 use mathlib.Core.Path.{sym, ◌∙◌}
 use native.Mathlib.Omega.{arith}
-use borrow.Author.Rules.{rules}
 use Rattle.shape.proofs.Accepted.{told-accepted, told-refused, usable, lines_are, lines_none, lines-refused}
 use Rattle.shape.proofs.axes.lines.Goals as goal
 

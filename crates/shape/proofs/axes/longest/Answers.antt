@@ -1,8 +1,6 @@
 use mathlib.Core.Path.{◌∙◌, sym, ap}
 use native.Mathlib.Omega.{arith}
-use lib.ListN.{length}
 use lib.Seq.{take_all}
-use borrow.Author.Rules.{rules}
 use Rattle.shape.specs.Shape.{longest}
 use Rattle.shape.proofs.axes.longest.Goals as goal
 

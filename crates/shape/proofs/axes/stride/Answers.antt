@@ -1,6 +1,5 @@
 use mathlib.Core.Path.{sym, ◌∙◌}
 use native.Mathlib.Omega.{arith}
-use borrow.Author.Rules.{rules}
 use Rattle.shape.proofs.Accepted.{told-accepted, told-refused, usable, stride-is, stride-none, stride-refused}
 use Rattle.shape.proofs.axes.stride.Goals as goal
 

@@ -1,6 +1,5 @@
 use mathlib.Core.Path.{refl}
 use native.Mathlib.Omega.{arith}
-use borrow.Author.Rules.{rules}
 use Rattle.shape.proofs.Found.{no-axis, no_line, first-room, line-is}
 use Rattle.shape.proofs.inner.find_line.Goals as goal
 

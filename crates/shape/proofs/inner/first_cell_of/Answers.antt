@@ -1,6 +1,5 @@
 use mathlib.Core.Path.{refl}
 use native.Mathlib.Omega.{arith}
-use borrow.Author.Rules.{rules}
 use Rattle.shape.specs.Shape.{first_cell}
 use Rattle.shape.proofs.inner.first_cell_of.Goals as goal
 

@@ -1,5 +1,4 @@
 use native.Mathlib.Omega.{arith}
-use borrow.Author.Rules.{rules}
 use Rattle.shape.proofs.Accepted.{room, earlier-span, later-span, lines-span}
 use Rattle.shape.proofs.inner.lines_of.Goals as goal
 

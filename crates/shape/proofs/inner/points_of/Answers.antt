@@ -1,5 +1,4 @@
 use native.Mathlib.Omega.{arith}
-use borrow.Author.Rules.{rules}
 use Rattle.shape.proofs.Accepted.{usable-positive}
 use Rattle.shape.proofs.inner.points_of.Goals as goal
 

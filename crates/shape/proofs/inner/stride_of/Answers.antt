@@ -1,5 +1,4 @@
 use native.Mathlib.Omega.{arith}
-use borrow.Author.Rules.{rules}
 use Rattle.shape.proofs.Accepted.{later-span, stride-span}
 use Rattle.shape.proofs.inner.stride_of.Goals as goal
 

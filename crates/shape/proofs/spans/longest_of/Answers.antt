@@ -1,9 +1,4 @@
-use mathlib.Core.Path.{◌≡◌}
-use mathlib.Core.Logic.{⊎_elim}
-use Prim.Native.Nat.{◌-◌, ◌≤◌, max}
 use native.Mathlib.Omega.{arith}
-use lib.ListN.{take, drop}
-use Rattle.shape.specs.Shape.{longest}
 use Rattle.shape.proofs.Lengths.{longest-cons, longest-end}
 use Rattle.shape.proofs.spans.longest_of.Goals as goal
 use Rattle.shape.proofs.spans.longest_of.Goals.{then-most-dims, else-most-dims}

@@ -1,10 +1,7 @@
 use mathlib.Core.Path.{◌≡◌}
-use mathlib.Core.Logic.{⊎_elim}
 use Prim.Native.Nat.{◌-◌, ◌≤◌, max}
-use native.Mathlib.Omega.{arith}
 use lib.ListN.{take, drop}
 use Rattle.shape.specs.Shape.{longest}
-use Rattle.shape.proofs.Lengths.{longest-cons, longest-end}
 use Rattle.shape.proofs.spans.longest_of.Given as goal
 
 abbrev pub invariant-loop-i : goal.invariant-loop-i

@@ -1,14 +1,9 @@
-use mathlib.Core.Path.{◌≡◌, sym, ◌∙◌, ap}
+use mathlib.Core.Path.{◌≡◌}
 use mathlib.Core.Bool.{false}
-use Prim.Native.Nat.{ℕ, ◌≤◌, ◌<◌, ◌-◌, ◌+◌, ◌*◌, min}
-use native.Mathlib.Nat.{mul_assoc, one-mul, mul-one, mul-pos, mul-le-mul_right, le-mul_of_pos_right}
-use native.Mathlib.Omega.{arith}
-use borrow.Author.Tests.{ltb-false}
-use lib.Dec.{ltb}
-use lib.ListN.{length, take, drop, get_or}
+use Prim.Native.Nat.{◌≤◌, ◌<◌, ◌-◌, ◌*◌}
+use lib.ListN.{take, drop}
 use Rattle.shape.specs.Checks.{any_short}
 use Rattle.shape.specs.Shape.{product}
-use Rattle.shape.proofs.Lengths.{short-cons, product-cons, product-end, or-false, product-pos-of-short}
 use Rattle.shape.proofs.spans.points_to_limit.Given as goal
 
 abbrev pub invariant-loop-i : goal.invariant-loop-i

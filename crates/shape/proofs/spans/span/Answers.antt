@@ -1,8 +1,8 @@
 use mathlib.Core.Path.{◌≡◌, ap}
-use Prim.Native.Nat.{ℕ, ◌+◌, ◌-◌, ◌*◌, ◌≤◌, ◌<◌}
+use Prim.Native.Nat.{ℕ, ◌+◌, ◌*◌}
 use native.Mathlib.Nat.{le-mul_of_pos_right, one-mul}
 use native.Mathlib.Omega.{arith}
-use lib.ListN.{length, get_or, take, drop}
+use lib.ListN.{get_or, take, drop}
 use borrow.Author.Rules.{rules}
 use Rattle.shape.specs.Shape.{product}
 use Rattle.shape.proofs.Lengths.{product-cons, product-end}

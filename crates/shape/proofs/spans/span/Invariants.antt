@@ -1,12 +1,7 @@
-use mathlib.Core.Path.{◌≡◌, ap}
-use Prim.Native.Nat.{ℕ, ◌+◌, ◌-◌, ◌*◌, ◌≤◌, ◌<◌}
-use native.Mathlib.Nat.{le-mul_of_pos_right, one-mul}
-use native.Mathlib.Omega.{arith}
-use lib.ListN.{length, get_or, take, drop}
-use borrow.Author.Rules.{rules}
+use mathlib.Core.Path.{◌≡◌}
+use Prim.Native.Nat.{◌-◌, ◌*◌, ◌≤◌}
+use lib.ListN.{take, drop}
 use Rattle.shape.specs.Shape.{product}
-use Rattle.shape.proofs.Lengths.{product-cons, product-end}
-use Rattle.shape.proofs.Radix.{span_pos}
 use Rattle.shape.proofs.spans.span.Given as goal
 
 abbrev pub invariant-loop-at : goal.invariant-loop-at

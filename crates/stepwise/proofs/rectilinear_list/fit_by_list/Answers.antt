@@ -2,7 +2,6 @@ use mathlib.Core.Path.{sym, ◌∙◌}
 use native.Mathlib.Omega.{arith}
 use lib.ListN.{length, take}
 use lib.Ieee.{binary64}
-use borrow.Author.Rules.{rules}
 use Rattle.knots.specs.Checks.{grid_check, knots_check}
 use Rattle.book.proofs.Answers.{begin-passed}
 use Rattle.ledger.proofs.Stages.{is-accepted, two-agree}

@@ -1,11 +1,9 @@
 use mathlib.Core.Path.{◌∙◌}
 use Prim.Native.Nat.{◌-◌}
 use lib.ListN.{take}
-use lib.Ieee.{binary64, nan}
-use borrow.Author.Rules.{rules}
+use lib.Ieee.{nan}
 use Rattle.knots.specs.Checks.{grid_check, knots_check}
-use Rattle.rectilinear.specs.Fit.{solve, upper}
-use Rattle.stepwise.proofs.Runs.{RunTo, run-start, run_step, run-done}
+use Rattle.stepwise.proofs.Runs.{run-start, run_step, run-done}
 use Rattle.stepwise.proofs.rectilinear_list.run_list.Goals as goal
 
 pub loop-i-init : goal.loop-i-init

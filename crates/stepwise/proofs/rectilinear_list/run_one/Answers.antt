@@ -1,6 +1,5 @@
 use mathlib.Core.Path.{refl}
 use native.Mathlib.Omega.{arith}
-use borrow.Author.Rules.{rules}
 use Rattle.ledger.proofs.Stages.{answer-small}
 use Rattle.stepwise.proofs.Runs.{one-ran}
 use Rattle.stepwise.proofs.rectilinear_list.run_one.Goals as goal

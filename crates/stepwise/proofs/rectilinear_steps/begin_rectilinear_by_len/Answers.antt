@@ -1,6 +1,5 @@
 use mathlib.Core.Path.{sym, ◌∙◌}
 use lib.ListN.{length, take}
-use borrow.Author.Rules.{rules}
 use Rattle.knots.specs.Checks.{grid_check, knots_check}
 use Rattle.book.proofs.Answers.{begin-passed}
 use Rattle.ledger.proofs.Stages.{is-accepted}

@@ -2,7 +2,6 @@ use mathlib.Core.Path.{refl}
 use native.Mathlib.Omega.{arith}
 use lib.ListN.{length, take}
 use lib.Ieee.{binary64, nan}
-use borrow.Author.Rules.{rules}
 use Rattle.knots.specs.Checks.{grid_check, knots_check}
 use Rattle.rectilinear.specs.Fit.{solve, upper}
 use Rattle.ledger.proofs.DueBytes.{bumped-is}

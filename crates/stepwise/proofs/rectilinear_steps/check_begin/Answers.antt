@@ -1,6 +1,5 @@
 use native.Mathlib.Omega.{arith}
 use lib.ListN.{take}
-use borrow.Author.Rules.{rules}
 use Rattle.shape.proofs.Accepted.{usable}
 use Rattle.knots.specs.Checks.{grid_check, knots_check}
 use Rattle.ledger.proofs.Stages.{is-accepted, ready-passed, begin-ready, not-ready, then-last}

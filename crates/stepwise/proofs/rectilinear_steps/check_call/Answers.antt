@@ -1,6 +1,5 @@
 use lib.ListN.{take}
 use native.Mathlib.Omega.{arith}
-use borrow.Author.Rules.{rules}
 use Rattle.shape.proofs.Accepted.{usable}
 use Rattle.knots.specs.Checks.{grid_check, knots_check}
 use Rattle.ledger.proofs.Stages.{is-accepted, ready-passed, call-ready-is, not-ready, then-last}

@@ -1,5 +1,4 @@
 use lib.ListN.{take}
-use borrow.Author.Rules.{rules}
 use Rattle.stepwise.proofs.Rectilinear.{grid-fails, grid-passes}
 use Rattle.stepwise.proofs.rectilinear_steps.check_grid.Goals as goal
 

@@ -1,5 +1,4 @@
 use native.Mathlib.Omega.{arith}
-use borrow.Author.Rules.{rules}
 use Rattle.stepwise.proofs.Rectilinear.{knots-fail, knots-pass}
 use mathlib.Core.Path.{ap}
 use mathlib.Core.Bool.{not}

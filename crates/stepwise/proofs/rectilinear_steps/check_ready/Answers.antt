@@ -1,6 +1,5 @@
 use native.Mathlib.Omega.{arith}
 use lib.ListN.{take}
-use borrow.Author.Rules.{rules}
 use Rattle.shape.proofs.Accepted.{usable}
 use Rattle.knots.specs.Checks.{grid_check, knots_check}
 use Rattle.ledger.proofs.Stages.{is-accepted, at-shape, at-grid, at_held, at-knots}
@@ -32,11 +31,10 @@ returns-in-Refused-check_held c =
     (is-accepted c.in_default-check_grid.is c.check_grid.ensures) c.in-Refused-check_held.is c.check_held.ensures
 
 pub check_knots-requires : goal.check_knots-requires
-check_knots-requires c =
-    (
-      usable c.args.count c.args.dims (omega (arith, c.well_formed)) (is-accepted c.in_default.is c.check.ensures),
-      joined_is (take c.args.count c.args.dims) c.args.grid.now (is-accepted c.in_default-check_grid.is c.check_grid.ensures),
-    )
+check_knots-requires c = (
+  usable c.args.count c.args.dims (omega (arith, c.well_formed)) (is-accepted c.in_default.is c.check.ensures),
+  joined_is (take c.args.count c.args.dims) c.args.grid.now (is-accepted c.in_default-check_grid.is c.check_grid.ensures),
+)
 
 pub returns : goal.returns
 returns c =

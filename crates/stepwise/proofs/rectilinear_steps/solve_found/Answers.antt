@@ -2,7 +2,6 @@ use mathlib.Core.Path.{sym, ◌∙◌}
 use native.Mathlib.Omega.{arith}
 use lib.ListN.{take}
 use lib.Ieee.{binary64, nan}
-use borrow.Author.Rules.{rules}
 use Rattle.shape.specs.Cells.{line}
 use Rattle.shape.proofs.Accepted.{points-are}
 use Rattle.rectilinear.proofs.Axis.{knots-are, knots-long, upper_is, solve-is}

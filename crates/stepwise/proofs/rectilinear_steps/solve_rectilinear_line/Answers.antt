@@ -1,5 +1,4 @@
 use lib.ListN.{take}
-use borrow.Author.Rules.{rules}
 use Rattle.knots.specs.Checks.{grid_check, knots_check}
 use Rattle.ledger.proofs.Stages.{is-accepted}
 use Rattle.stepwise.proofs.Runs.{called-unready}

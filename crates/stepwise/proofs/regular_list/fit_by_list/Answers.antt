@@ -3,7 +3,6 @@ use mathlib.Core.List.{[]}
 use native.Mathlib.Omega.{arith}
 use lib.ListN.{length}
 use lib.Ieee.{binary64}
-use borrow.Author.Rules.{rules}
 use Rattle.book.proofs.Answers.{begin-passed}
 use Rattle.ledger.proofs.Stages.{is-accepted, two-agree}
 use Rattle.stepwise.proofs.Runs.{ran-not-begun, ran-not-listed, ran-accepted, begun-calls}

@@ -1,11 +1,8 @@
 use mathlib.Core.Path.{◌∙◌}
 use mathlib.Core.List.{[]}
 use Prim.Native.Nat.{◌-◌}
-use lib.ListN.{take}
-use lib.Ieee.{binary64, nan}
-use borrow.Author.Rules.{rules}
-use Rattle.regular.specs.Fit.{solve, upper}
-use Rattle.stepwise.proofs.Runs.{RunTo, run-start, run_step, run-done}
+use lib.Ieee.{nan}
+use Rattle.stepwise.proofs.Runs.{run-start, run_step, run-done}
 use Rattle.stepwise.proofs.regular_list.run_list.Goals as goal
 
 pub loop-i-init : goal.loop-i-init

@@ -1,11 +1,9 @@
-use mathlib.Core.Path.{◌∙◌}
 use mathlib.Core.List.{[]}
 use Prim.Native.Nat.{◌-◌}
 use lib.ListN.{take}
 use lib.Ieee.{binary64, nan}
-use borrow.Author.Rules.{rules}
 use Rattle.regular.specs.Fit.{solve, upper}
-use Rattle.stepwise.proofs.Runs.{RunTo, run-start, run_step, run-done}
+use Rattle.stepwise.proofs.Runs.{RunTo}
 use Rattle.stepwise.proofs.regular_list.run_list.Given as goal
 
 abbrev pub invariant-loop-i : goal.invariant-loop-i

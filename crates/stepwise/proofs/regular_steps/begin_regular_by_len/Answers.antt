@@ -1,7 +1,6 @@
 use mathlib.Core.Path.{sym, ◌∙◌}
 use mathlib.Core.List.{[]}
 use lib.ListN.{length}
-use borrow.Author.Rules.{rules}
 use Rattle.book.proofs.Answers.{begin-passed}
 use Rattle.ledger.proofs.Stages.{is-accepted}
 use Rattle.stepwise.proofs.Runs.{begun-refused, begun-accepted}

@@ -3,7 +3,6 @@ use mathlib.Core.List.{[]}
 use native.Mathlib.Omega.{arith}
 use lib.ListN.{length, take}
 use lib.Ieee.{binary64, nan}
-use borrow.Author.Rules.{rules}
 use Rattle.regular_lines.specs.Rows.{coefficient, upper_number}
 use Rattle.regular.specs.Fit.{solve, upper}
 use Rattle.ledger.proofs.DueBytes.{bumped-is}

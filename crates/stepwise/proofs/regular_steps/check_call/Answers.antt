@@ -1,6 +1,5 @@
 use mathlib.Core.List.{[]}
 use native.Mathlib.Omega.{arith}
-use borrow.Author.Rules.{rules}
 use Rattle.shape.proofs.Accepted.{usable}
 use Rattle.ledger.proofs.Stages.{is-accepted, ready-passed, call-ready-is, not-ready, then-last}
 use Rattle.stepwise.proofs.regular_steps.check_call.Goals as goal

@@ -1,7 +1,6 @@
 use mathlib.Core.Path.{refl}
 use mathlib.Core.List.{[]}
 use native.Mathlib.Omega.{arith}
-use borrow.Author.Rules.{rules}
 use Rattle.shape.proofs.Accepted.{usable}
 use Rattle.ledger.proofs.Stages.{is-accepted, at-shape, at_last}
 use Rattle.stepwise.proofs.regular_steps.check_ready.Goals as goal

@@ -1,5 +1,4 @@
 use mathlib.Core.List.{[]}
-use borrow.Author.Rules.{rules}
 use Rattle.ledger.proofs.Stages.{is-accepted}
 use Rattle.stepwise.proofs.Runs.{called-unready}
 use Rattle.stepwise.proofs.regular_steps.solve_regular_line.Goals as goal
