@@ -1,6 +1,8 @@
 // The map program.
 #![tactic(auto)]
 
-fn main() {
-    map_run::run();
+use std::io;
+
+fn main(rt: HostRuntime) -> io::Result<()> {
+    map_run::run(&rt)
 }

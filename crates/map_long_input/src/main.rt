@@ -2,6 +2,8 @@
 // byte were not noticed.
 #![tactic(auto)]
 
-fn main() {
-    map_run::run();
+use std::io;
+
+fn main(rt: HostRuntime) -> io::Result<()> {
+    map_run::run(&rt)
 }

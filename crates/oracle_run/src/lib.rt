@@ -5,5 +5,5 @@
 mod record;
 mod tally;
 
-pub use record::{Read, is_whole, read_record, shape_of};
+pub use record::{Read, is_whole, large_buffer, read_record, shape_of};
 pub use tally::{Outcome, Tally, open, replayed, stop};

@@ -2,8 +2,10 @@
 ghost use Rattle.std.specs.Prelude.{◌≡◌, [], ◌∷◌, ◌≤◌, length};
 ghost use Rattle.oracle_list.specs.Words.{number_at};
 
+use full_reads::read_full;
 use oracle_list::size_at;
 use shape::Shape;
+use std::fs::File;
 
 // How many bytes of a buffer hold the next record; none where the list has no more, or the record cannot be read.
 #[derive(Clone, Copy)]
@@ -22,12 +24,12 @@ fn nothing(is_end: bool) -> Read
 }
 
 // Reads `text` full. Whether there was enough to read.
-fn fill_text(fd: i32, text: &mut [u8]) -> bool {
-    io::read_full(fd, text) == text.len()
+fn fill_text(list: &mut File, text: &mut [u8]) -> bool {
+    read_full(list, text) == text.len()
 }
 
 // Reads the rest of a record, `count` words, behind its first two.
-fn read_words(fd: i32, count: u64, text: &mut [u8]) -> Read
+fn read_words(list: &mut File, count: u64, text: &mut [u8]) -> Read
     ensures { result.bytes ≤ length text.new }
 {
     if count > 3584 {
@@ -37,7 +39,7 @@ fn read_words(fd: i32, count: u64, text: &mut [u8]) -> Read
     if n > text.len() {
         return nothing(false);
     }
-    if !fill_text(fd, &mut text[34..n]) {
+    if !fill_text(list, &mut text[34..n]) {
         return nothing(false);
     }
     if !oracle_list::are_words(&text[..n]) {
@@ -50,13 +52,13 @@ fn read_words(fd: i32, count: u64, text: &mut [u8]) -> Read
 }
 
 // Reads the next record into `text`: its kind, how many words follow, and those, at most 3584 and no more than `text` holds.
-pub fn read_record(fd: i32, text: &mut [u8]) -> Read
+pub fn read_record(list: &mut File, text: &mut [u8]) -> Read
     ensures { result.bytes ≤ length text.new }
 {
     if text.len() < 34 {
         return nothing(false);
     }
-    let got = io::read_full(fd, &mut text[..34]);
+    let got = read_full(list, &mut text[..34]);
     if got == 0 {
         return nothing(true);
     }
@@ -64,7 +66,7 @@ pub fn read_record(fd: i32, text: &mut [u8]) -> Read
         return nothing(false);
     }
     let count = oracle_list::number_at(text, 1);
-    read_words(fd, count, text)
+    read_words(list, count, text)
 }
 
 // Whether a record has as many words as its lengths say: `first` of them, and `left` more where its answer is 0.
@@ -93,4 +95,11 @@ pub fn shape_of(text: &[u8]) -> Shape
         count: size_at(text, 2),
         dims: dims,
     }
+}
+
+// Room for the text of a record. Its contract has the length alone, so that no proof above sees the zeros.
+pub fn large_buffer() -> [u8; 65536]
+    ensures { 65536 ≡ length result }
+{
+    [0; 65536]
 }

@@ -1,5 +1,7 @@
 // The counts of a run, and how they are printed.
-use libc::STDOUT_FILENO;
+use std::fs::File;
+use std::rt::Files;
+use std::{fs, io};
 
 // What came of a record.
 #[derive(Clone, Copy)]
@@ -34,14 +36,15 @@ pub fn stop(is_end: bool) -> Outcome {
     Outcome::Unreadable
 }
 
-// Opens a list; a negative number, and a word on standard output, where that fails.
-pub fn open(path: &[u8]) -> i32 {
-    let fd = os::open_read(path);
-    if fd < 0 {
-        os::fail(path);
-        print_line(b"unreadable,", 0);
+// Opens a list; a word on standard output, and the error, where that fails.
+pub fn open(rt: &(impl Files<File = File> + Print), path: &str) -> io::Result<File> {
+    match fs::open(rt, path) {
+        Ok(list) => Ok(list),
+        Err(error) => {
+            print_line(rt, b"unreadable,", 0)?;
+            Err(error)
+        }
     }
-    fd
 }
 
 #[derive(Clone, Copy)]
@@ -112,20 +115,24 @@ impl Tally {
 
     // The counts by their names; or, where the list could not be read to its end, only the number of the record that stopped
     // it.
-    pub fn print(self, first: &[u8], second: &[u8], third: &[u8]) {
+    pub fn print(
+        self,
+        rt: &impl Print,
+        first: &[u8],
+        second: &[u8],
+        third: &[u8],
+    ) -> io::Result<()> {
         if !self.is_whole {
-            print_line(b"unreadable,", more(self.records, 1));
-            return;
+            return print_line(rt, b"unreadable,", more(self.records, 1));
         }
-        print_line(first, self.first);
-        print_line(second, self.second);
-        print_line(third, self.third);
-        print_line(b"differ,", self.differ);
+        print_line(rt, first, self.first)?;
+        print_line(rt, second, self.second)?;
+        print_line(rt, third, self.third)?;
+        print_line(rt, b"differ,", self.differ)
     }
 }
 
-fn print_line(name: &[u8], n: u64) {
-    io::write_all(STDOUT_FILENO, name);
-    io::print_decimal(STDOUT_FILENO, n);
-    io::write_all(STDOUT_FILENO, b"\n");
+fn print_line(rt: &impl Print, name: &[u8], n: u64) -> io::Result<()> {
+    rt.write_all(name)?;
+    println!(rt; "{n}")
 }

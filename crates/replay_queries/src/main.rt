@@ -9,13 +9,15 @@ mod ones;
 mod record;
 
 use oracle_run::{Outcome, Tally};
+use std::fs::File;
+use std::io;
 
 // A list with more records than this is not read to its end, and so counts as unreadable.
 const MOST_RECORDS: usize = 1000000;
 
 // Reads the next record and replays it.
-fn replay_next(fd: i32, text: &mut [u8]) -> Outcome {
-    let read = oracle_run::read_record(fd, text);
+fn replay_next(list: &mut File, text: &mut [u8]) -> Outcome {
+    let read = oracle_run::read_record(list, text);
     let n = read.bytes;
     if n == 0 {
         return oracle_run::stop(read.is_end);
@@ -24,12 +26,12 @@ fn replay_next(fd: i32, text: &mut [u8]) -> Outcome {
 }
 
 // Replays the records one after the other, up to the end of the list or the first that cannot be read.
-fn replay_all(fd: i32, text: &mut [u8]) -> Tally {
+fn replay_all(list: &mut File, text: &mut [u8]) -> Tally {
     let mut tally = Tally::new();
     let mut left = MOST_RECORDS;
     while left > 0 {
         left -= 1;
-        let outcome = replay_next(fd, text);
+        let outcome = replay_next(list, text);
         tally = tally.with(outcome);
         if !tally.is_going {
             return tally;
@@ -39,17 +41,13 @@ fn replay_all(fd: i32, text: &mut [u8]) -> Tally {
 }
 
 // Replays an open list, and prints what came of it.
-fn replay_list(fd: i32, text: &mut [u8]) {
-    let tally = replay_all(fd, text);
-    libc::close(fd);
-    tally.print(b"maps,", b"queries,", b"refused,");
+fn replay_list(rt: &impl Print, list: &mut File, text: &mut [u8]) -> io::Result<()> {
+    let tally = replay_all(list, text);
+    tally.print(rt, b"maps,", b"queries,", b"refused,")
 }
 
-fn main() {
-    let fd = oracle_run::open(b"queries.txt");
-    if fd < 0 {
-        return;
-    }
-    let mut text = io::large_buffer();
-    replay_list(fd, &mut text);
+fn main(rt: HostRuntime) -> io::Result<()> {
+    let mut list = oracle_run::open(&rt, "queries.txt")?;
+    let mut text = oracle_run::large_buffer();
+    replay_list(&rt, &mut list, &mut text)
 }
