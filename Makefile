@@ -30,7 +30,7 @@ C99 = -std=c99 $(WARNINGS) -Iinclude
 CXX17 = -std=c++17 $(WARNINGS) -Iinclude
 
 HEADER = include/corvezan.h
-SOURCES = crates.txt $(wildcard crates/*/src/*.rt crates/*/specs/*.antt crates/*/proofs/*/*.antt)
+SOURCES = crates.txt $(wildcard crates/*/src/*.rt crates/*/specs/*.antt crates/*/proofs/*.antt crates/*/proofs/*/*.antt crates/*/proofs/*/*/*.antt)
 PARTS = examples/c/explain.c examples/c/cells.c examples/c/table.c
 SHEET = examples/c/rating_sheet.c examples/c/layout.c examples/c/place.c $(PARTS)
 SLICE = examples/c/task_slice.c examples/c/tasks.c $(PARTS)
@@ -42,7 +42,7 @@ HEAT_PUMP = examples/heat_pump
 SANITIZERS = -fsanitize=address,undefined -fno-sanitize-recover=all -O1 -g
 MEMCHECK = $(VALGRIND) --quiet --error-exitcode=99 --leak-check=full --errors-for-leak-kinds=all
 
-.PHONY: all help examples shared install uninstall sanitize memcheck clean
+.PHONY: all help map examples shared install uninstall sanitize memcheck clean
 .PHONY: test test-house test-header test-symbols test-c test-install test-rust test-python test-differences
 .DELETE_ON_ERROR:
 
@@ -50,6 +50,7 @@ all: $(LIBRARY)
 
 help:
 	@echo "make             the library, $(LIBRARY)"
+	@echo "make map         the map program, target/bin/map"
 	@echo "make shared      the shared library, $(SHARED)"
 	@echo "make examples    the C examples, in $(BIN)"
 	@echo "make install     header, library and pkg-config file, under DESTDIR and PREFIX ($(PREFIX))"
@@ -62,8 +63,18 @@ help:
 # ---- the library
 
 target/staticlib/libcapi.a: $(SOURCES)
-	rt staticlib capi
-	touch $@
+	@mkdir -p $(@D)
+	cd crates/capi && rt lib
+	cp crates/capi/out/libcapi.a $@
+
+# ---- the map program, proved and compiled; the run that rt ends with reads nothing
+
+map: target/bin/map
+
+target/bin/map: $(SOURCES)
+	@mkdir -p $(@D)
+	cd crates/map && rt run < /dev/null > /dev/null
+	cp crates/map/out/map $@
 
 # Compared each time, as ARCHIVE may name another file than the last time, and an older one.
 $(LIBRARY): $(ARCHIVE) FORCE
