@@ -1,8 +1,8 @@
 #!/usr/bin/env python3
 """costs.py CRATE [N]: what the prover spends on a crate, the N dearest functions and laws first (30 without N).
 
-Checks the crate over an empty incremental folder, once the crates below it are proved (`rt ci CRATE`, or `rt check` in each of
-their folders), and reads the times at which the folder's files appear: a module's seconds are those since the one before it.
+Checks the crate over an empty incremental folder, once the crates below it are proved (`rt check` in its folder does that too),
+and reads the times at which the folder's files appear: a module's seconds are those since the one before it.
 `walk` is what the kit writes of a function's proof, which grows as the square of the function's length and of what the function
 holds; `proof` is what stands in proofs/, a function's Invariants and Answers among it. Run it alone on the machine, or the
 seconds say little."""
