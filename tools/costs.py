@@ -1,10 +1,11 @@
 #!/usr/bin/env python3
 """costs.py CRATE [N]: what the prover spends on a crate, the N dearest functions and laws first (30 without N).
 
-Checks the crate over an empty incremental folder, once the crates below it are proved (`rt check CRATE`), and reads the times at
-which the folder's files appear: a module's seconds are those since the one before it. `walk` is the code's part of a function's
-proof, which the kit writes; it grows as the square of the function's length and of what the function holds. Run it alone on the
-machine, or the seconds say little."""
+Checks the crate over an empty incremental folder, once the crates below it are proved (`rt check` in its folder does that too),
+and reads the times at which the folder's files appear: a module's seconds are those since the one before it.
+`walk` is what the kit writes of a function's proof, which grows as the square of the function's length and of what the function
+holds; `proof` is what stands in proofs/, a function's Invariants and Answers among it. Run it alone on the machine, or the
+seconds say little."""
 import collections
 import os
 import pathlib
@@ -15,37 +16,58 @@ import sys
 import tempfile
 
 ROOT = pathlib.Path(__file__).resolve().parent.parent
-# What the kit writes for a function, beside the proof file and the laws that stand in the repository.
-WRITTEN = {"Lts", "Tie", "Code", "Mir", "Kinds", "Layout", "Symbol", "Statement", "Reads", "Key", "Met"}
+# What the kit writes for a function, beside the files and the laws that stand in the repository.
+WRITTEN = {"Lts", "Tie", "Code", "Mir", "Kinds", "Layout", "Symbol", "Statement", "Reads", "Key", "Met", "Given", "Goals", "View",
+           "TheLink", "TheLinks", "contracts", "declared"}
+OURS = {"Invariants", "Answers"}
 
 
 def kit():
-    home = os.environ.get("RATTLE_HOME")
-    return pathlib.Path(home) if home else pathlib.Path(shutil.which("rt")).resolve().parent.parent
+    return pathlib.Path(shutil.which("rt")).resolve().parent.parent
+
+
+def listed(crate):
+    """Of crates.txt: whether it is a static library, and the crates that it is built on."""
+    found = re.search(rf"^{crate}( staticlib)?:(.*)$", (ROOT / "crates.txt").read_text(), flags=re.M)
+    if not found:
+        sys.exit(f"crates.txt has no {crate}")
+    return bool(found[1]), found[2].split()
+
+
+def below(crate):
+    """The crates below it, in the order in which they are met."""
+    found = {}
+    for dep in listed(crate)[1]:
+        found |= {dep: None} | below(dep)
+    return found
+
+
+def rlib(crate):
+    return ROOT / "crates" / crate / "out/rlib" / f"{crate}.rlib"
 
 
 def words(crate, folder):
-    """As `rt` calls the prover, with an incremental folder besides."""
+    """As `rt` calls the prover, with an incremental folder of its own."""
     home = kit()
-    own = home / "on" / os.uname().machine
-    listed = re.search(rf"^{crate}:(.*)$", (ROOT / "crates.txt").read_text(), flags=re.M)
-    if not listed:
-        sys.exit(f"crates.txt has no {crate}")
-    source = ROOT / "crates" / crate / "src"
-    main = source / "main.rt"
-    rlibs = {name: (ROOT / "target/rlib" if (ROOT / "crates" / name).is_dir() else own / "rlib") / f"{name}.rlib"
-             for name in ["std"] + listed[1].split()}
-    return ([own / "bin/rattle", "check", "--crate-name", crate, main if main.exists() else source / "lib.rt"]
-            + [word for name, rlib in rlibs.items() for word in ("--extern", f"{name}={rlib}")]
-            + ["-L", f"dependency={ROOT / 'target/rlib'}", "-L", f"dependency={own / 'rlib'}", "--antt-project",
-               home / "logic/antt-project.json", "--logic-built", own / "logic-built", "--incremental", folder])
+    main = ROOT / "crates" / crate / "src/main.rt"
+    is_static, deps = listed(crate)
+    return ([home / "bin/rattle", "check", "--crate-name", crate, "src/main.rt" if main.exists() else "src/lib.rt",
+             "--extern", f"std={home / 'rlibs/std.rlib'}", "-L", f"dependency={home / 'rlibs'}"]
+            + [word for dep in deps for word in ("--extern", f"{dep}={rlib(dep)}")]
+            + [word for dep in below(crate) for word in ("-L", f"dependency={rlib(dep).parent}")]
+            + ["--antt-project", home / "rattle/logic/antt-project.json", "--logic-built", home / "logic_built", "--jobs", "1"]
+            + (["--crate-type", "staticlib"] if is_static else []) + ["--incremental", folder])
 
 
 def part(module):
     """Of a module's name: what it belongs to, and whether it is the walk or a proof."""
-    names = re.sub(r"^Rattle·\w+(·\w+)?\.?|\.(decls\.)?oantt$", "", module).split(".")
-    kept = [name for name in names if name not in WRITTEN | {"Proof", "proofs", "specs"}]
-    return ".".join(kept) or module, "proof" if "Proof" in names or not set(names) & WRITTEN else "walk"
+    names = re.sub(r"^Rattle-\w+(-\w+)?(\.|$)", "", re.sub(r"\.(decls\.)?oantt$", "", module)).split(".")
+    kept = [name for name in names if name not in WRITTEN | OURS | {"Proof", "proofs", "specs"}]
+    if "TheLinks" in names:
+        # a module names its functions whole there: CRATE-FILE-FUNCTION
+        kept = [word for name in kept for word in name.split("-")[1:]]
+    walk = set(names) & (WRITTEN | {"Proof"}) and not set(names) & OURS
+    return ".".join(kept) or module, "walk" if walk else "proof"
 
 
 def seconds(folder):
@@ -61,9 +83,10 @@ def main():
     if len(sys.argv) < 2:
         sys.exit(__doc__)
     with tempfile.TemporaryDirectory() as folder:
-        ended = subprocess.run(words(sys.argv[1], folder), cwd=ROOT, stdout=subprocess.DEVNULL, stderr=subprocess.PIPE, text=True)
+        ended = subprocess.run(words(sys.argv[1], folder), cwd=ROOT / "crates" / sys.argv[1], stdin=subprocess.DEVNULL,
+                               stdout=subprocess.PIPE, stderr=subprocess.STDOUT, text=True)
         if ended.returncode:
-            sys.exit(f"{sys.argv[1]} is not proved: {ended.stderr[:400]}")
+            sys.exit(f"{sys.argv[1]} is not proved: {ended.stdout[-400:]}")
         spent = seconds(pathlib.Path(folder))
     shown = sorted(spent, key=lambda what: -sum(spent[what].values()))[:int(sys.argv[2]) if len(sys.argv) > 2 else 30]
     print(f"{sum(sum(kinds.values()) for kinds in spent.values()):8.1f} s in all\n    walk   proof")

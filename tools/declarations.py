@@ -35,7 +35,7 @@ def in_c(parameter):
 def exported():
     found = {}
     for path in sorted((ROOT / "crates/capi/src").glob("*.rt")):
-        pattern = r'#\[no_mangle\]\npub extern "C" fn (\w+)\(([^)]*)\)\s*->\s*(\w+)'
+        pattern = r'#\[unsafe\(no_mangle\)\]\npub extern "C" fn (\w+)\(([^)]*)\)\s*->\s*(\w+)'
         for name, inside, result in re.findall(pattern, path.read_text()):
             parameters = [p for p in inside.replace("\n", " ").split(",") if p.strip()]
             found[name] = (NUMBERS[result], [c for p in parameters for c in in_c(p)])

@@ -40,7 +40,7 @@ Scope = collections.namedtuple("Scope", "names files")
 NAME = r"[^\s(){}\[\];:.,=«»⌜⌝λ]+"
 START = re.compile(rf"^( *)(?:(?:abbrev|unfoldable) )?(?:pub )?(?:(record|data) ({NAME})(?= )|({NAME}) :(?= |$))")
 MODULE = re.compile(r"^( *)module _")
-USE = re.compile(r"^(?:ghost )?use Rattle·(\w+?)(?:·\w+)?\.(specs|proofs)\.(\w+)(?:\.\{(.*)\}| as (\w+))?;?$")
+USE = re.compile(r"^(?:ghost )?use Rattle\.(\w+)\.(specs|proofs)\.(\w+)(?:\.\{(.*)\}| as (\w+))?;?$")
 # a list of imported names may go over several lines
 IN_BRACES = re.compile(r"\.\{[^{}]*\}")
 COMMENT = re.compile(r"(?:^|(?<= ))--(?: .*)?$", flags=re.M)
@@ -170,9 +170,9 @@ def bound(text):
 
 
 def mentions(text):
-    """Every name but for fields: `record { a = a }` mentions a once, and `.a` nothing."""
+    """Every name but for fields: `record { a = a }` mentions a once, `.a` nothing, and `s.a` s, or a of the file s."""
     words = re.findall(r"[^\s(){}\[\];,«»⌜⌝λ]+", re.sub(rf"({NAME})\s+=(?=\s)", " ", text))
-    return {word.rstrip(".") for word in words if not word.startswith(".")}
+    return {name for word in words if not word.startswith(".") for name in (word.rstrip("."), word.split(".")[0])}
 
 
 def resolve(word, place, scope):

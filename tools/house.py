@@ -22,6 +22,8 @@ LONGEST_SHOWN = 12
 
 Function = collections.namedtuple("Function", "crate path line name owner exported parameters contract body")
 OPENING = {"(": ")", "[": "]", "{": "}"}
+# What a clause of a contract begins with, before its brace.
+CLAUSE = r"\b(?:requires|ensures)\b(?:\s+\w+)?\s*"
 
 
 # ---- reading
@@ -56,10 +58,20 @@ def split(inside):
     return [p.strip() for p in parts + [part] if p.strip()]
 
 
+def past_generics(code, start):
+    """The place after the generic parameters that may begin at `start`: `<R: Read>`, also with a `->` in a bound."""
+    depth = 0
+    for found in re.finditer(r"->|[<>]|\S", code[start:]):
+        depth += {"<": 1, ">": -1}.get(found[0], 0)
+        if depth == 0:
+            return start + (found.end() if found[0] == ">" else found.start())
+    raise ValueError(f"nothing closes < at character {start}")
+
+
 def body_start(code, after):
-    """The place of the body's brace, past the result and the contracts."""
+    """The place of the body's brace, past the result and the clauses, each of which may have a name."""
     while True:
-        found = re.compile(r"(\brequires\b|\bensures\b)?\s*\{").search(code, after)
+        found = re.compile(rf"({CLAUSE})?\{{").search(code, after)
         brace = found.end() - 1
         if not found[1]:
             return brace
@@ -68,27 +80,28 @@ def body_start(code, after):
 
 def owner_at(code, place):
     """The type whose methods stand around a place, if any."""
-    for found in re.finditer(r"^impl (\w+) \{", code, flags=re.M):
+    for found in re.finditer(r"^impl\b(?:<[^{]*?>)?\s+(?:[^{]*?\sfor\s+)?(\w+)[^{;]*\{", code, flags=re.M):
         if found.start() < place < closing(code, found.end() - 1):
             return found[1]
     return None
 
 
 def contract(between):
-    """What stands between the parameters and the body, without the result."""
-    found = re.search(r"\b(requires|ensures)\b", between)
-    return between[found.start():] if found else ""
+    """What stands between the parameters and the body, without the result, `where` and the names of clauses."""
+    found = re.search(rf"{CLAUSE}\{{", between)
+    return re.sub(rf"{CLAUSE}(?=\{{)", "", between[found.start():]) if found else ""
 
 
 def functions_in(path):
     text = path.read_text()
     code = blanked(text)
-    for found in re.finditer(r"^[ \t]*(?:pub )?(extern\b.*)?\bfn (\w+)\s*\(", code, flags=re.M):
-        end = closing(code, found.end() - 1)
+    for found in re.finditer(r"^[ \t]*(?:pub )?(extern\b.*)?\bfn (\w+)\s*(?=[(<])", code, flags=re.M):
+        start = past_generics(code, found.end())
+        end = closing(code, start)
         brace = body_start(code, end)
         body = text[brace + 1:closing(code, brace)]
         yield Function(path.parts[-3], path.relative_to(ROOT), code.count("\n", 0, found.start(2)) + 1, found[2],
-                       owner_at(code, found.start()), bool(found[1]), split(code[found.end():end]),
+                       owner_at(code, found.start()), bool(found[1]), split(code[start + 1:end]),
                        contract(text[end + 1:brace]), len(body.strip().splitlines()))
 
 

@@ -1,5 +1,5 @@
 #!/bin/sh
-# symbols.sh [ARCHIVE]: holds include/corvezan.h to the library for C (`rt staticlib capi` makes it). Fails unless
+# symbols.sh [ARCHIVE]: holds include/corvezan.h to the library for C (`make` makes it). Fails unless
 #   - the archive defines just the functions that the header declares, and no other name that a program could clash with;
 #   - it has no data that can be written, and needs nothing from outside but memcpy and memset;
 #   - each declaration has the result and the parameters of the function's source (tools/declarations.py).

@@ -208,7 +208,7 @@ def run_program(program, text):
         done = subprocess.run([str(program)], input=text.encode("ascii"), stdout=subprocess.PIPE, check=False)
     except OSError as error:
         raise Fault(
-            f"The map program cannot be started: {error}. Build it with 'rt check map' in the repository's root, or"
+            f"The map program cannot be started: {error}. Build it with 'make map' in the repository's root, or"
             f" name another place with --program."
         ) from error
     if done.returncode < 0:
