@@ -36,7 +36,8 @@ fn check_fit(
     if let Answer::Refused(refusal) = shape.check() {
         return Answer::Refused(refusal);
     }
-    if grid.len() != grid_len(count, dims) {
+    let knots = grid.len();
+    if knots != grid_len(count, dims) {
         return Answer::Refused(Refusal::DimensionMismatch);
     }
     if coeffs != shape.coeff_storage_len() {

@@ -1,4 +1,4 @@
--- Laws of the lengths of the axes: `product`, `longest` and `anyShort` of the axes from one on. Assumes nothing.
+-- Laws of the lengths of the axes: `product`, `longest` and `any_short` of the axes from one on. Assumes nothing.
 use mathlib.Core.Path.{◌≡◌, refl, ap, ◌∙◌}
 use mathlib.Core.Bool.{Bool, true, false, ◌||◌}
 use mathlib.Core.List.{List, [], ◌∷◌}

@@ -1,4 +1,4 @@
--- Laws of `lineScratch`: reading a number, one more row, and what stood there before. Assumes nothing.
+-- Laws of `line_scratch`: reading a number, one more row, and what stood there before. Assumes nothing.
 use mathlib.Core.Path.{◌≡◌, refl, sym, ap, ◌∙◌}
 use mathlib.Core.Logic.{◌≢◌}
 use mathlib.Core.List.{List}
