@@ -7,6 +7,9 @@ DESTDIR =
 ARCHIVE = target/staticlib/libcapi.a
 VERSION = 0.1.0
 
+# For any x86-64 processor: without the flag the kit compiles for x86-64-v2, which has SSE4.2.
+RT_FLAGS = --cpu=x86-64
+
 CC = gcc
 CXX = g++
 PYTHON = python3
@@ -64,7 +67,7 @@ help:
 
 target/staticlib/libcapi.a: $(SOURCES)
 	@mkdir -p $(@D)
-	cd crates/capi && rt lib
+	cd crates/capi && rt lib $(RT_FLAGS)
 	cp crates/capi/out/libcapi.a $@
 
 # ---- the map program, proved and compiled; the run that rt ends with reads nothing
@@ -73,7 +76,7 @@ map: target/bin/map
 
 target/bin/map: $(SOURCES)
 	@mkdir -p $(@D)
-	cd crates/map && rt run < /dev/null > /dev/null
+	cd crates/map && rt run $(RT_FLAGS) < /dev/null > /dev/null
 	cp crates/map/out/map $@
 
 # Compared each time, as ARCHIVE may name another file than the last time, and an older one.

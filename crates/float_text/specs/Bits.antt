@@ -7,7 +7,6 @@ use Rattle.float_text.specs.Digits.{number_from, digits_of}
 use Rattle.float_text.specs.declared.Pattern.{Pattern}
 use Rattle.float_text.specs.declared.Pattern.TheVariants.{Bits, Unreadable}
 use Rattle.float_text.specs.declared.Value.{Value}
-use Rattle.float_text.specs.declared.Value.TheVariants as Value
 
 -- the 64 bits that 16 hexadecimal digits stand for
 unfoldable pub bits_in : List ℕ → Pattern

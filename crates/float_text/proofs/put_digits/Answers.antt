@@ -1,4 +1,3 @@
-use Prim.Native.Nat.{◌-◌}
 use Rattle.float_text.proofs.Writing.{Printing-start, Printing-weight, Printing-digit, Printing-step, Printing-done}
 use Rattle.float_text.proofs.put_digits.Goals as goal
 

@@ -1,4 +1,3 @@
-use Prim.Native.Nat.{◌-◌}
 use borrow.Author.Rules.{rules}
 use Rattle.float_text.proofs.Reading.{Reading-start, Reading-fits, Reading-mul, Reading-step, Reading-bad, Reading-done}
 use Rattle.float_text.proofs.read_digits.Goals as goal

@@ -1,4 +1,3 @@
-use Prim.Native.Nat.{◌-◌}
 use Rattle.map_print.proofs.Printing.{Listing-start, Listing-step, Listing-done}
 use Rattle.map_print.proofs.put_floats.Goals as goal
 

@@ -1,4 +1,3 @@
-use Prim.Native.Nat.{◌-◌}
 use Rattle.multibspline.proofs.Sweeps.{same_start, same_step, same-done}
 use Rattle.multibspline.proofs.copy.Goals as goal
 

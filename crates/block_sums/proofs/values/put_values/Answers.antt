@@ -1,4 +1,3 @@
-use Prim.Native.Nat.{◌-◌}
 use native.Mathlib.Omega.{arith}
 use Rattle.evaluation.proofs.Blocks.{writing_start, writing-set, writing-done}
 use Rattle.block_sums.proofs.values.put_values.Goals as goal

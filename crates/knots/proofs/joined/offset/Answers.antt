@@ -1,4 +1,3 @@
-use Prim.Native.Nat.{◌-◌}
 use native.Mathlib.Omega.{arith}
 use Rattle.knots.proofs.Totals.{total-cons, total-end}
 use Rattle.knots.proofs.joined.offset.Goals as goal

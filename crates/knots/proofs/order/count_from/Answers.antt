@@ -1,4 +1,3 @@
-use Prim.Native.Nat.{◌-◌}
 use native.Mathlib.Omega.{arith}
 use Rattle.knots.proofs.Counts.{counting-start, counting-next, counting-done}
 use Rattle.knots.proofs.order.count_from.Goals as goal

@@ -1,5 +1,4 @@
 use mathlib.Core.Path.{refl, sym, ◌∙◌}
-use Prim.Native.Nat.{◌-◌}
 use native.Mathlib.Omega.{arith}
 use Rattle.knots.proofs.Increase.{rises-on, rises-end}
 use Rattle.knots.proofs.order.rising.Goals as goal

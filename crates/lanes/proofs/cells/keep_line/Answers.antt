@@ -1,4 +1,3 @@
-use Prim.Native.Nat.{◌-◌}
 use Rattle.lanes.proofs.Groups.{filled-start, filled-step, filled-done}
 use Rattle.lanes.proofs.cells.keep_line.Goals as goal
 

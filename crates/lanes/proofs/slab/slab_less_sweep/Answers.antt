@@ -1,4 +1,3 @@
-use Prim.Native.Nat.{◌-◌}
 use native.Mathlib.Omega.{arith}
 use Rattle.lanes.proofs.Rows.{sweep-start, sweep-step-1, sweep-done}
 use Rattle.lanes.proofs.slab.slab_less_sweep.Goals as goal

@@ -1,5 +1,4 @@
 use mathlib.Core.Path.{sym, ◌∙◌}
-use Prim.Native.Nat.{◌-◌}
 use Rattle.shape.proofs.Below.{none-start, none_done}
 use Rattle.ledger.proofs.Others.{other_step, other-found}
 use Rattle.ledger.proofs.bytes.any_other.Goals as goal

@@ -1,4 +1,3 @@
-use Prim.Native.Nat.{◌-◌}
 use native.Mathlib.Omega.{arith}
 use Rattle.ledger.proofs.Cleared.{clear-start, clear_step, clear-done}
 use Rattle.ledger.proofs.bytes.clear.Goals as goal

@@ -1,4 +1,3 @@
-use Prim.Native.Nat.{◌-◌}
 use native.Mathlib.Omega.{arith}
 use Rattle.ledger.proofs.DueBytes.{set-start, set-step, set-done}
 use Rattle.ledger.proofs.bytes.set_bytes.Goals as goal

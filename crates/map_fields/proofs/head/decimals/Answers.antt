@@ -1,4 +1,3 @@
-use Prim.Native.Nat.{◌-◌}
 use Rattle.map_fields.proofs.Decimals.{Counting-start, Counting-step, Counting-last, Counting-bad}
 use Rattle.map_fields.proofs.head.decimals.Goals as goal
 

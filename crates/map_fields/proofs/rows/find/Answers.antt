@@ -1,5 +1,4 @@
 use mathlib.Core.Path.{refl}
-use Prim.Native.Nat.{◌-◌}
 use borrow.Author.Rules.{rules}
 use Rattle.map_fields.proofs.Finding.{Finding-found, Finding-step, Finding-done}
 use Rattle.map_fields.proofs.rows.find.Goals as goal

@@ -1,5 +1,4 @@
 use mathlib.Core.Path.{refl}
-use Prim.Native.Nat.{◌-◌}
 use Rattle.map_fields.proofs.FloatRows.{Floating-start, Floating-step, Floating-bad, Floating-last, Floating-over}
 use Rattle.map_fields.proofs.rows.floats.Goals as goal
 

@@ -1,4 +1,3 @@
-use Prim.Native.Nat.{◌-◌}
 use native.Mathlib.Omega.{arith}
 use Rattle.shape.proofs.Below.{none-start, none_done}
 use Rattle.map_spline.specs.Outside.{regular_axis_outside}

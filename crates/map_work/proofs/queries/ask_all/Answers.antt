@@ -1,5 +1,4 @@
 use mathlib.Core.Path.{refl}
-use Prim.Native.Nat.{◌-◌}
 use native.Mathlib.Omega.{arith}
 use Rattle.map_work.proofs.QueryLines.{Asking-start, Asking-step, Asking-bad, Asking-done, Ready-step}
 use Rattle.map_work.proofs.queries.ask_all.Goals as goal

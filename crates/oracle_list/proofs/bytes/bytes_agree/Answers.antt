@@ -1,4 +1,3 @@
-use Prim.Native.Nat.{◌-◌}
 use native.Mathlib.Omega.{arith}
 use Rattle.oracle_list.proofs.Turns.{Passed-start, Passed-step, Passed-done, next_place}
 use Rattle.oracle_list.proofs.WordLaws.{not-matched}

@@ -1,4 +1,3 @@
-use Prim.Native.Nat.{◌-◌}
 use borrow.Author.Rules.{rules}
 use Rattle.oracle_list.proofs.Alike.{Alike-start, Alike-step, Alike-done}
 use Rattle.oracle_list.proofs.WordLaws.{not-matched}

@@ -1,4 +1,3 @@
-use Prim.Native.Nat.{◌-◌}
 use Rattle.oracle_list.proofs.Turns.{Passed-start, Passed-step, Passed-done}
 use Rattle.oracle_list.proofs.WordLaws.{not-matched}
 use Rattle.oracle_list.proofs.cells.cells_agree.Goals as goal

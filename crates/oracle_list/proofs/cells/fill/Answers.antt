@@ -1,4 +1,3 @@
-use Prim.Native.Nat.{◌-◌}
 use Rattle.oracle_list.proofs.CellLaws.{Filling-start, Filling-step, Filling-done}
 use Rattle.oracle_list.proofs.cells.fill.Goals as goal
 

@@ -1,4 +1,3 @@
-use Prim.Native.Nat.{◌-◌}
 use Rattle.oracle_list.proofs.CellLaws.{Filled-start, Filled-step, Filled-bad, Filled-done}
 use Rattle.oracle_list.proofs.cells.is_filled.Goals as goal
 

@@ -1,4 +1,3 @@
-use Prim.Native.Nat.{◌-◌}
 use native.Mathlib.Omega.{arith}
 use Rattle.oracle_list.specs.Agree.{float_at}
 use Rattle.oracle_list.proofs.Turns.{Setting-start, Setting-step, Setting-done}

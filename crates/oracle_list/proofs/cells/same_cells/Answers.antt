@@ -1,4 +1,3 @@
-use Prim.Native.Nat.{◌-◌}
 use Rattle.oracle_list.proofs.CellLaws.{Pairs-start, Pairs-step, Pairs-bad, Pairs-done, Pairs-length}
 use Rattle.oracle_list.proofs.cells.same_cells.Goals as goal
 

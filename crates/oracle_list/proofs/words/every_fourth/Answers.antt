@@ -1,4 +1,3 @@
-use Prim.Native.Nat.{◌-◌}
 use native.Mathlib.Omega.{arith}
 use Rattle.oracle_list.proofs.Turns.{Setting-start, Setting-step, Setting-done}
 use Rattle.oracle_list.proofs.words.every_fourth.Goals as goal

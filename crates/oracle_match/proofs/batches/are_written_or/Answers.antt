@@ -1,4 +1,3 @@
-use Prim.Native.Nat.{◌-◌}
 use Rattle.oracle_list.proofs.CellLaws.{Counting-start, Counting-at, Counting-step}
 use Rattle.oracle_list.proofs.Turns.{Passed-start, Passed-step, Passed-done}
 use Rattle.oracle_list.proofs.WordLaws.{not-matched}

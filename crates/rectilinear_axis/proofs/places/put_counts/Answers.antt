@@ -1,5 +1,4 @@
 use mathlib.Core.Path.{refl}
-use Prim.Native.Nat.{◌-◌}
 use Rattle.rectilinear_axis.specs.Axis.{count_at}
 use Rattle.rectilinear_axis.proofs.Cells.{cells-start, cells-next, cells-done}
 use Rattle.rectilinear_axis.proofs.places.put_counts.Goals as goal

@@ -1,4 +1,3 @@
-use Prim.Native.Nat.{◌-◌}
 use native.Mathlib.Omega.{arith}
 use Rattle.evaluation.proofs.Rows.{rows-begin, rows-room, rows_next, rows-done}
 use Rattle.rectilinear_axis.proofs.slopes.put_slopes.Goals as goal

@@ -1,5 +1,5 @@
 use mathlib.Core.Path.{refl}
-use Prim.Native.Nat.{◌+◌, ◌-◌, ◌≤◌}
+use Prim.Native.Nat.{◌+◌, ◌≤◌}
 use native.Mathlib.Nat.{mul-le-mul_left, mul-add}
 use native.Mathlib.Omega.{arith}
 use Rattle.evaluation.proofs.Rows.{axes-begin, axes-next, axes-done}

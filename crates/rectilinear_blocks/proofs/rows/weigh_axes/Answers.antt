@@ -1,5 +1,4 @@
 use mathlib.Core.Path.{refl}
-use Prim.Native.Nat.{◌-◌}
 use native.Mathlib.Omega.{arith}
 use Rattle.evaluation.proofs.Rows.{axes-begin, axes-next, axes-done}
 use Rattle.evaluation.proofs.Stages.{axis-room, room_as}

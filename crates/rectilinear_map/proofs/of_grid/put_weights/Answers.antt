@@ -1,5 +1,5 @@
 use mathlib.Core.Path.{◌≡◌}
-use Prim.Native.Nat.{◌+◌, ◌-◌}
+use Prim.Native.Nat.{◌+◌}
 use native.Mathlib.Omega.{arith}
 use Rattle.evaluation.proofs.Rows.{rows-begin, rows_next, rows-done}
 use Rattle.rectilinear_map.proofs.of_grid.put_weights.Goals as goal

@@ -1,4 +1,3 @@
-use Prim.Native.Nat.{◌-◌}
 use Rattle.lanes.proofs.Groups.{to_start, to_step, to-done}
 use Rattle.rectilinear_sweeps.proofs.bundle.solve_ends.Goals as goal
 

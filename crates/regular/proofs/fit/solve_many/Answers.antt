@@ -1,5 +1,4 @@
 use native.Mathlib.Omega.{arith}
-use Prim.Native.Nat.{◌-◌}
 use lib.Ieee.{binary64}
 use Rattle.shape.proofs.Lines.{first-cell-room}
 use Rattle.lanes.specs.Lanes.{zero_samples}

@@ -1,5 +1,4 @@
 use mathlib.Core.Path.{◌∙◌}
-use Prim.Native.Nat.{◌-◌}
 use native.Mathlib.Omega.{arith}
 use lib.Ieee.{binary64}
 use Rattle.regular_axis.proofs.Placing.{placing-start, placing-next, placing-stop, placing-done}

@@ -1,4 +1,3 @@
-use Prim.Native.Nat.{◌-◌}
 use lib.Ieee.{binary64}
 use Rattle.regular_weights.proofs.Lengths.{length-derivatives}
 use Rattle.evaluation.proofs.Rows.{rows-begin, rows-done}

@@ -1,5 +1,4 @@
 use mathlib.Core.Path.{refl, ◌∙◌}
-use Prim.Native.Nat.{◌-◌}
 use native.Mathlib.Omega.{arith}
 use Rattle.evaluation.proofs.Batches.{running-start, block-next, block-stop, running-done}
 use Rattle.regular_map.proofs.blocks.gradient_blocks.Goals as goal

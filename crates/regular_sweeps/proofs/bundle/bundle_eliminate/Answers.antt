@@ -1,4 +1,3 @@
-use Prim.Native.Nat.{◌-◌}
 use Rattle.lanes.proofs.Turns.{up_start, up_step, up_done}
 use Rattle.regular_sweeps.proofs.bundle.bundle_eliminate.Goals as goal
 

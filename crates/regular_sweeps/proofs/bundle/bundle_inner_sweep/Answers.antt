@@ -1,4 +1,3 @@
-use Prim.Native.Nat.{◌-◌}
 use native.Mathlib.Omega.{arith}
 use Rattle.lanes.proofs.Rows.{sweep-start, sweep-step, sweep-done}
 use Rattle.regular_sweeps.proofs.bundle.bundle_inner_sweep.Goals as goal

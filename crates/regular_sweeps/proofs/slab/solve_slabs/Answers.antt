@@ -1,4 +1,3 @@
-use Prim.Native.Nat.{◌-◌}
 use Rattle.lanes.proofs.Groups.{slabs-start, slabs-step, slabs-done}
 use Rattle.regular_sweeps.proofs.slab.solve_slabs.Goals as goal
 

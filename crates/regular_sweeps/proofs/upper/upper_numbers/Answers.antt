@@ -1,4 +1,3 @@
-use Prim.Native.Nat.{◌-◌}
 use lib.Ieee.{binary64}
 use Rattle.lanes.proofs.Groups.{filled-start, uppers-step, filled-done}
 use Rattle.regular_sweeps.specs.Sweeps.{upper_next}

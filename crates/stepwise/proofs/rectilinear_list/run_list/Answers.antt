@@ -1,5 +1,4 @@
 use mathlib.Core.Path.{◌∙◌}
-use Prim.Native.Nat.{◌-◌}
 use lib.ListN.{take}
 use lib.Ieee.{nan}
 use Rattle.knots.specs.Checks.{grid_check, knots_check}

@@ -1,6 +1,5 @@
 use mathlib.Core.Path.{◌∙◌}
 use mathlib.Core.List.{[]}
-use Prim.Native.Nat.{◌-◌}
 use lib.Ieee.{nan}
 use Rattle.stepwise.proofs.Runs.{run-start, run_step, run-done}
 use Rattle.stepwise.proofs.regular_list.run_list.Goals as goal
