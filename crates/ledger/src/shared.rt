@@ -1,4 +1,4 @@
-// What begin, the line call and the task list check on either grid, in the order of the papers: the shape first, then the
+// What begin, the line call and the task list check on either grid, in the order of the supplied document: the shape first, then the
 // joined grid, what stands here up to the ledger, the knots, and what stands here after them. The shape has passed its check.
 ghost use Rattle.std.specs.Prelude.{◌≡◌, ◌++◌, length, take, replicate};
 ghost use Rattle.shape.specs.Shape.{size};

@@ -36,11 +36,12 @@ pub fn stop(is_end: bool) -> Outcome {
     Outcome::Unreadable
 }
 
-// Opens a list; a word on standard output, and the error, where that fails.
-pub fn open(rt: &(impl Files<File = File> + Print), path: &str) -> io::Result<File> {
+// Opens a list; where that fails its name on standard error, a word on standard output, and the error.
+pub fn open(rt: &(impl Files<File = File> + Print + Eprint), path: &str) -> io::Result<File> {
     match fs::open(rt, path) {
         Ok(list) => Ok(list),
         Err(error) => {
+            eprintln!(rt; "{path}: it cannot be opened")?;
             print_line(rt, b"unreadable,", 0)?;
             Err(error)
         }

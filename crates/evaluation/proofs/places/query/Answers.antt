@@ -26,7 +26,7 @@ pub offset_bounds-xs-a : goal.offset_bounds-xs-a
 offset_bounds-xs-a c = omega (arith, inside c, c.well_formed)
 
 pub bounds-xs-a : goal.bounds-xs-a
-bounds-xs-a c = in-batch c.args.count c.args.n c.args.i c.loop-a.a _ c.loop-a-test.true c.requires.1 c.requires.2
+bounds-xs-a c = omega (arith, in-batch c.args.count c.args.n c.args.i c.loop-a.a _ c.loop-a-test.true c.requires.1 c.requires.2)
 
 pub loop-a-preserved : goal.loop-a-preserved
 loop-a-preserved c =
