@@ -8,7 +8,6 @@ use Rattle.evaluation.proofs.Batches.{batch-refused, batch-entries, whole-batch}
 use Rattle.evaluation.proofs.Outcomes.{gradient-checks, gradient-whole, gradient-length, gradient-passed}
 use Rattle.evaluation.proofs.Same.{same-gradients}
 use Rattle.rectilinear_blocks.specs.Eval.{map_answer}
-use Rattle.rectilinear_blocks.specs.Sound.{Sound}
 use Rattle.rectilinear_map.proofs.Checks.{map-numbered, told-sound}
 use Rattle.rectilinear_map.proofs.Grids.{same_count, same_map, accepted}
 use Rattle.rectilinear_map.proofs.batch.gradients.Goals as goal
@@ -21,8 +20,9 @@ returns-in-Refused c =
 
 pub nonzero_rem-out : goal.nonzero_rem-out
 nonzero_rem-out c =
-    let u = ((let sound' : let a = c.args in Sound a.map.count a.map.dims a.grid.now (length a.coeffs.now) = let a = c.args in
-    told-sound a.map.count a.map.dims a.grid.now (length a.coeffs.now) (search rules) c.in_default.is c.check_map.ensures in sound')).gridded.shape in
+    let a = c.args in
+    let sound = told-sound a.map.count a.map.dims a.grid.now (length a.coeffs.now) (search rules) c.in_default.is c.check_map.ensures in
+    let u = sound.gridded.shape in
     omega (arith, u.some-axis)
 
 pub returns-then-out-count-ne0 : goal.returns-then-out-count-ne0
@@ -39,22 +39,25 @@ returns-then-xs-out c =
 
 pub nonzero_div-n : goal.nonzero_div-n
 nonzero_div-n c =
-    let u = ((let sound' : let a = c.args in Sound a.map.count a.map.dims a.grid.now (length a.coeffs.now) = let a = c.args in
-    told-sound a.map.count a.map.dims a.grid.now (length a.coeffs.now) (search rules) c.in_default.is c.check_map.ensures in sound')).gridded.shape in
+    let a = c.args in
+    let sound = told-sound a.map.count a.map.dims a.grid.now (length a.coeffs.now) (search rules) c.in_default.is c.check_map.ensures in
+    let u = sound.gridded.shape in
     omega (arith, u.some-axis)
 
 pub grid_of-requires : goal.grid_of-requires
-grid_of-requires c = ((let sound' : let a = c.args in Sound a.map.count a.map.dims a.grid.now (length a.coeffs.now) = let a = c.args in
-    told-sound a.map.count a.map.dims a.grid.now (length a.coeffs.now) (search rules) c.in_default.is c.check_map.ensures in sound')).gridded.shape
+grid_of-requires c =
+    let a = c.args in
+    let sound = told-sound a.map.count a.map.dims a.grid.now (length a.coeffs.now) (search rules) c.in_default.is c.check_map.ensures in
+    sound.gridded.shape
 
 pub put_gradients-requires : goal.put_gradients-requires
 put_gradients-requires c =
     let a = c.args in
+    let sound = told-sound a.map.count a.map.dims a.grid.now (length a.coeffs.now) (search rules) c.in_default.is c.check_map.ensures in
     let g = c.grid_of in
     let same = same_count g.result g.ensures.1 in
     let n = whole-batch (length a.out.now) a.map.count in
-    let w = accepted g.result g.ensures.1 g.ensures.0 ((let sound' : let a = c.args in Sound a.map.count a.map.dims a.grid.now (length a.coeffs.now) = let a = c.args in
-    told-sound a.map.count a.map.dims a.grid.now (length a.coeffs.now) (search rules) c.in_default.is c.check_map.ensures in sound')) in
+    let w = accepted g.result g.ensures.1 g.ensures.0 sound in
     (w.0, w.1, rw same (omega (arith, n, c.if-xs-out.false)), rw same (omega (arith, n)))
 
 pub returns : goal.returns

@@ -7,7 +7,6 @@ use Rattle.evaluation.proofs.Batches.{batch-refused, batch-entries, batch-small}
 use Rattle.evaluation.proofs.Outcomes.{batch-checks, batch-length, batch-passed}
 use Rattle.evaluation.proofs.Same.{same-values}
 use Rattle.rectilinear_blocks.specs.Eval.{map_answer}
-use Rattle.rectilinear_blocks.specs.Sound.{Sound}
 use Rattle.rectilinear_map.proofs.Checks.{map-numbered, told-sound}
 use Rattle.rectilinear_map.proofs.Grids.{same_count, same_map, accepted}
 use Rattle.rectilinear_map.proofs.batch.values.Goals as goal
@@ -21,8 +20,8 @@ returns-in-Refused c =
 pub overflow_mul-map : goal.overflow_mul-map
 overflow_mul-map c =
     let a = c.args in
-    let u = ((let sound' : let a = c.args in Sound a.map.count a.map.dims a.grid.now (length a.coeffs.now) = let a = c.args in
-    told-sound a.map.count a.map.dims a.grid.now (length a.coeffs.now) (search rules) c.in_default.is c.check_map.ensures in sound')).gridded.shape in
+    let sound = told-sound a.map.count a.map.dims a.grid.now (length a.coeffs.now) (search rules) c.in_default.is c.check_map.ensures in
+    let u = sound.gridded.shape in
     record { fits = batch-small a.map.count (length a.out.now) u.at-most-four (omega (arith, c.well_formed)) }
 
 pub returns-then-xs-map : goal.returns-then-xs-map
@@ -32,14 +31,17 @@ returns-then-xs-map c =
     batch-refused DimensionMismatch (batch-length _ (length a.xs.now) (length a.out.now) (map-numbered a.map.count a.map.dims a.grid.now (length a.coeffs.now)) c.in_default.is c.check_map.ensures c.if-xs-map.true)
 
 pub grid_of-requires : goal.grid_of-requires
-grid_of-requires c = ((let sound' : let a = c.args in Sound a.map.count a.map.dims a.grid.now (length a.coeffs.now) = let a = c.args in
-    told-sound a.map.count a.map.dims a.grid.now (length a.coeffs.now) (search rules) c.in_default.is c.check_map.ensures in sound')).gridded.shape
+grid_of-requires c =
+    let a = c.args in
+    let sound = told-sound a.map.count a.map.dims a.grid.now (length a.coeffs.now) (search rules) c.in_default.is c.check_map.ensures in
+    sound.gridded.shape
 
 pub put_values-requires : goal.put_values-requires
 put_values-requires c =
+    let a = c.args in
+    let sound = told-sound a.map.count a.map.dims a.grid.now (length a.coeffs.now) (search rules) c.in_default.is c.check_map.ensures in
     let g = c.grid_of in
-    let w = accepted g.result g.ensures.1 g.ensures.0 ((let sound' : let a = c.args in Sound a.map.count a.map.dims a.grid.now (length a.coeffs.now) = let a = c.args in
-    told-sound a.map.count a.map.dims a.grid.now (length a.coeffs.now) (search rules) c.in_default.is c.check_map.ensures in sound')) in
+    let w = accepted g.result g.ensures.1 g.ensures.0 sound in
     (w.0, w.1, rw (same_count g.result g.ensures.1) (omega (arith, c.if-xs-map.false)), omega arith)
 
 pub returns : goal.returns

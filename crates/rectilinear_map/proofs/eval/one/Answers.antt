@@ -6,7 +6,6 @@ use Rattle.shape.specs.declared.answers.Refusal.TheVariants.{DimensionMismatch}
 use Rattle.evaluation.proofs.Outcomes.{one-refused, one-checks, one-length, one-answered}
 use Rattle.evaluation.proofs.Same.{same-value}
 use Rattle.rectilinear_blocks.specs.Eval.{map_answer}
-use Rattle.rectilinear_blocks.specs.Sound.{Sound}
 use Rattle.rectilinear_map.proofs.Checks.{map-numbered, told-sound}
 use Rattle.rectilinear_map.proofs.Grids.{same_count, same_map, accepted}
 use Rattle.rectilinear_map.proofs.eval.one.Goals as goal
@@ -24,14 +23,17 @@ returns-then-x-map c =
     one-refused _ a.x.now DimensionMismatch (one-length _ a.x.now (map-numbered a.map.count a.map.dims a.grid.now (length a.coeffs.now)) c.in_default.is c.check_map.ensures c.if-x-map.true)
 
 pub grid_of-requires : goal.grid_of-requires
-grid_of-requires c = ((let sound' : let a = c.args in Sound a.map.count a.map.dims a.grid.now (length a.coeffs.now) = let a = c.args in
-    told-sound a.map.count a.map.dims a.grid.now (length a.coeffs.now) (search rules) c.in_default.is c.check_map.ensures in sound')).gridded.shape
+grid_of-requires c =
+    let a = c.args in
+    let sound = told-sound a.map.count a.map.dims a.grid.now (length a.coeffs.now) (search rules) c.in_default.is c.check_map.ensures in
+    sound.gridded.shape
 
 pub value_at-requires : goal.value_at-requires
 value_at-requires c =
+    let a = c.args in
+    let sound = told-sound a.map.count a.map.dims a.grid.now (length a.coeffs.now) (search rules) c.in_default.is c.check_map.ensures in
     let g = c.grid_of in
-    let w = accepted g.result g.ensures.1 g.ensures.0 ((let sound' : let a = c.args in Sound a.map.count a.map.dims a.grid.now (length a.coeffs.now) = let a = c.args in
-    told-sound a.map.count a.map.dims a.grid.now (length a.coeffs.now) (search rules) c.in_default.is c.check_map.ensures in sound')) in
+    let w = accepted g.result g.ensures.1 g.ensures.0 sound in
     (w.0, w.1, omega (arith, c.if-x-map.false, same_count g.result g.ensures.1))
 
 pub returns : goal.returns

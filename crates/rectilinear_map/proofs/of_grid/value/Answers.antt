@@ -4,7 +4,6 @@ use lib.Ieee.{binary64}
 use Rattle.shape.specs.declared.answers.Refusal.TheVariants.{DimensionMismatch}
 use Rattle.evaluation.proofs.Outcomes.{one-refused, one-checks, one-length, one-answered}
 use Rattle.rectilinear_blocks.specs.Eval.{map_answer}
-use Rattle.rectilinear_blocks.specs.Sound.{Sound}
 use Rattle.rectilinear_map.proofs.Checks.{map-numbered, told-sound}
 use Rattle.rectilinear_map.proofs.OwnGhosts.{made_one}
 use Rattle.rectilinear_map.proofs.of_grid.value.Goals as goal
@@ -24,13 +23,16 @@ returns-then-x-count c =
     (one-refused _ a.x.now DimensionMismatch (one-length _ a.x.now (map-numbered a.count a.dims a.grid.now (length a.coeffs.now)) c.in_default.is c.check_map.ensures c.if-x-count.true))
 
 pub strides_of-strides-requires : goal.strides_of-strides-requires
-strides_of-strides-requires c = ((let sound' : let a = c.args in Sound a.count a.dims a.grid.now (length a.coeffs.now) = let a = c.args in
-    told-sound a.count a.dims a.grid.now (length a.coeffs.now) (omega (arith, c.well_formed)) c.in_default.is c.check_map.ensures in sound')).gridded.shape
+strides_of-strides-requires c =
+    let a = c.args in
+    let sound = told-sound a.count a.dims a.grid.now (length a.coeffs.now) (omega (arith, c.well_formed)) c.in_default.is c.check_map.ensures in
+    sound.gridded.shape
 
 pub value_by_knots-requires : goal.value_by_knots-requires
 value_by_knots-requires c =
-    let g = (let sound' : let a = c.args in Sound a.count a.dims a.grid.now (length a.coeffs.now) = let a = c.args in
-    told-sound a.count a.dims a.grid.now (length a.coeffs.now) (omega (arith, c.well_formed)) c.in_default.is c.check_map.ensures in sound') in
+    let a = c.args in
+    let sound = told-sound a.count a.dims a.grid.now (length a.coeffs.now) (omega (arith, c.well_formed)) c.in_default.is c.check_map.ensures in
+    let g = sound in
     ((record { shape = g.gridded.shape; four = omega (arith, c.well_formed); strides-are = c.strides_of-strides.ensures }, g.gridded), g.sized, omega (arith, c.if-x-count.false))
 
 pub returns : goal.returns

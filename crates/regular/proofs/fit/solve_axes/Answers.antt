@@ -22,7 +22,8 @@ solve_axis-requires-clause-coeffs_len c =
 
 pub loop-axis-preserved : goal.loop-axis-preserved
 loop-axis-preserved c =
-    axes-step nan _ _ _ c.loop-axis.invariant (rw ((let axes' : length (take c.args.count c.args.dims) ≡ c.args.count = axes-are c.args.count c.args.dims (omega (arith, c.well_formed)) c.requires.usable in axes')) c.loop-axis-test.true) c.solve_axis.ensures.coeffs_after c.solve_axis.ensures.scratch_after
+    let axes : length (take c.args.count c.args.dims) ≡ c.args.count = axes-are c.args.count c.args.dims (omega (arith, c.well_formed)) c.requires.usable in
+    axes-step nan _ _ _ c.loop-axis.invariant (rw axes c.loop-axis-test.true) c.solve_axis.ensures.coeffs_after c.solve_axis.ensures.scratch_after
 
 pub shape_of-coeffs : goal.shape_of-coeffs
 shape_of-coeffs c = c.loop-axis.invariant.length-xs
@@ -32,10 +33,12 @@ shape_of-scratch c = c.loop-axis.invariant.length-ss
 
 pub returns-clause-coeffs_after : goal.returns-clause-coeffs_after
 returns-clause-coeffs_after c =
-    let all : length (take c.args.count c.args.dims) ≤ c.loop-axis.axis = rw ((let axes' : length (take c.args.count c.args.dims) ≡ c.args.count = axes-are c.args.count c.args.dims (omega (arith, c.well_formed)) c.requires.usable in axes')) c.loop-axis-test.false in
+    let axes : length (take c.args.count c.args.dims) ≡ c.args.count = axes-are c.args.count c.args.dims (omega (arith, c.well_formed)) c.requires.usable in
+    let all : length (take c.args.count c.args.dims) ≤ c.loop-axis.axis = rw axes c.loop-axis-test.false in
     axes-coefs nan _ _ _ c.loop-axis.invariant all
 
 pub returns-clause-scratch_after : goal.returns-clause-scratch_after
 returns-clause-scratch_after c =
-    let all : length (take c.args.count c.args.dims) ≤ c.loop-axis.axis = rw ((let axes' : length (take c.args.count c.args.dims) ≡ c.args.count = axes-are c.args.count c.args.dims (omega (arith, c.well_formed)) c.requires.usable in axes')) c.loop-axis-test.false in
+    let axes : length (take c.args.count c.args.dims) ≡ c.args.count = axes-are c.args.count c.args.dims (omega (arith, c.well_formed)) c.requires.usable in
+    let all : length (take c.args.count c.args.dims) ≤ c.loop-axis.axis = rw axes c.loop-axis-test.false in
     axes-scratch nan _ _ _ c.loop-axis.invariant all
