@@ -1,3 +1,4 @@
 pub mod Cells
 pub mod Located
 pub mod Placing
+pub mod Moving

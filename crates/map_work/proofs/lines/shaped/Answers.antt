@@ -5,17 +5,14 @@ use Rattle.map_work.proofs.FirstThree.{limit-usable, ready-first, shape-read, sh
 use Rattle.map_fields.specs.Records.{head_of}
 use Rattle.map_work.proofs.lines.shaped.Goals as goal
 
-pub second-requires-clause-shaped : goal.second-requires-clause-shaped
-second-requires-clause-shaped c =
+pub second-requires : goal.second-requires
+second-requires c =
     let p = c.requires in
     let u = limit-usable c.args.line c.shape_number-number.ensures.dims_len (sym c.shape_number-number.ensures.value ∙ c.if-number-eq0.true) in
-    u
-
-pub second-requires-clause-ready : goal.second-requires-clause-ready
-second-requires-clause-ready c =
-    let p = c.requires in
-    let u = limit-usable c.args.line c.shape_number-number.ensures.dims_len (sym c.shape_number-number.ensures.value ∙ c.if-number-eq0.true) in
-    ready-first c.args.line u p.0 p.1 p.2 p.3
+    record {
+      shaped = u;
+      ready = ready-first c.args.line u p.0 p.1 p.2 p.3;
+    }
 
 pub returns-then-number-eq0 : goal.returns-then-number-eq0
 returns-then-number-eq0 c = let l = c.args.line in shape-read (head_of l) l.count _ _ c.shape_number-number.ensures.value _ _ _ c.if-number-eq0.true c.second.ensures

@@ -10,14 +10,11 @@ slice_bounds-samples-end c = omega (arith, c.points-n.ensures, c.requires.shaped
 pub slice_bounds-third_in-end : goal.slice_bounds-third_in-end
 slice_bounds-third_in-end c = simp length-take (omega (arith, c.points-n.ensures, c.requires.shaped.0.small))
 
-pub third_in-requires-clause-shaped : goal.third_in-requires-clause-shaped
-third_in-requires-clause-shaped c =
+pub third_in-requires : goal.third_in-requires
+third_in-requires c =
     let p = c.requires in
     let n = c.points-n.ensures in
-    (p.shaped.0, p.shaped.1, length-take-le _ _ (omega (arith, n, p.shaped.0.small)) ∙ n)
-
-pub third_in-requires-clause-ready : goal.third_in-requires-clause-ready
-third_in-requires-clause-ready c =
-    let p = c.requires in
-    let n = c.points-n.ensures in
-    p.ready
+    record {
+      shaped = (p.shaped.0, p.shaped.1, length-take-le _ _ (omega (arith, n, p.shaped.0.small)) ∙ n);
+      ready = p.ready;
+    }

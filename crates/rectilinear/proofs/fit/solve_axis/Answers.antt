@@ -19,40 +19,28 @@ high_ghost_coeffs-high_ghost-requires c =
     let a = c.args in
     knots-long a.count a.dims (omega (arith, c.well_formed)) c.requires.axis_lt_count.1 a.axis c.requires.axis_lt_count.0 a.grid.now c.requires.axis_lt_count.2 c.axis_knots-knots.ensures
 
-pub solve_lines-requires-clause-lines_nonzero : goal.solve_lines-requires-clause-lines_nonzero
-solve_lines-requires-clause-lines_nonzero c =
+pub solve_lines-requires : goal.solve_lines-requires
+solve_lines-requires c =
     let a = c.args in
     let four : length a.dims ≡ 4 = omega (arith, c.well_formed) in
     let n = knots-are a.count a.dims four c.requires.axis_lt_count.1 a.axis c.requires.axis_lt_count.0 a.grid.now c.requires.axis_lt_count.2 c.axis_knots-knots.ensures in
     let x = axis-is a.count a.dims four c.requires.axis_lt_count.1 a.axis c.requires.axis_lt_count.0 n c.stride-s.ensures c.lines-lines.ensures c.longest-m.ensures in
     let inside = axis-within a.count a.dims four c.requires.axis_lt_count.1 a.axis c.requires.axis_lt_count.0 x c.requires.coeffs_len.0 c.requires.coeffs_len.1 in
-    inside
+    record {
+      lines_nonzero = inside;
+      s_value = axis-whole x inside.1.stride-pos;
+    }
 
-pub solve_lines-requires-clause-s_value : goal.solve_lines-requires-clause-s_value
-solve_lines-requires-clause-s_value c =
-    let a = c.args in
-    let four : length a.dims ≡ 4 = omega (arith, c.well_formed) in
-    let n = knots-are a.count a.dims four c.requires.axis_lt_count.1 a.axis c.requires.axis_lt_count.0 a.grid.now c.requires.axis_lt_count.2 c.axis_knots-knots.ensures in
-    let x = axis-is a.count a.dims four c.requires.axis_lt_count.1 a.axis c.requires.axis_lt_count.0 n c.stride-s.ensures c.lines-lines.ensures c.longest-m.ensures in
-    let inside = axis-within a.count a.dims four c.requires.axis_lt_count.1 a.axis c.requires.axis_lt_count.0 x c.requires.coeffs_len.0 c.requires.coeffs_len.1 in
-    axis-whole x inside.1.stride-pos
-
-pub returns-clause-coeffs_after : goal.returns-clause-coeffs_after
-returns-clause-coeffs_after c =
+pub returns : goal.returns
+returns c =
     let a = c.args in
     let dims = take a.count a.dims in
     let four : length a.dims ≡ 4 = omega (arith, c.well_formed) in
     let n = knots-are a.count a.dims four c.requires.axis_lt_count.1 a.axis c.requires.axis_lt_count.0 a.grid.now c.requires.axis_lt_count.2 c.axis_knots-knots.ensures in
     let x = axis-is a.count a.dims four c.requires.axis_lt_count.1 a.axis c.requires.axis_lt_count.0 n c.stride-s.ensures c.lines-lines.ensures c.longest-m.ensures in
     let eu = upper_is binary64 a.grid.now dims a.axis c.axis_knots-knots.ensures c.low_ghost_coeffs-low_ghost.ensures c.high_ghost_coeffs-high_ghost.ensures in
-    let ev = solve-is binary64 a.grid.now dims a.axis c.axis_knots-knots.ensures c.low_ghost_coeffs-low_ghost.ensures c.high_ghost_coeffs-high_ghost.ensures in axis-coefs nan (upper binary64 a.grid.now dims) (solve binary64 a.grid.now dims) a.count a.dims a.axis _ _ _ _ x eu ev a.coeffs.now a.scratch.now c.solve_lines.ensures.coeffs_after
-
-pub returns-clause-scratch_after : goal.returns-clause-scratch_after
-returns-clause-scratch_after c =
-    let a = c.args in
-    let dims = take a.count a.dims in
-    let four : length a.dims ≡ 4 = omega (arith, c.well_formed) in
-    let n = knots-are a.count a.dims four c.requires.axis_lt_count.1 a.axis c.requires.axis_lt_count.0 a.grid.now c.requires.axis_lt_count.2 c.axis_knots-knots.ensures in
-    let x = axis-is a.count a.dims four c.requires.axis_lt_count.1 a.axis c.requires.axis_lt_count.0 n c.stride-s.ensures c.lines-lines.ensures c.longest-m.ensures in
-    let eu = upper_is binary64 a.grid.now dims a.axis c.axis_knots-knots.ensures c.low_ghost_coeffs-low_ghost.ensures c.high_ghost_coeffs-high_ghost.ensures in
-    let ev = solve-is binary64 a.grid.now dims a.axis c.axis_knots-knots.ensures c.low_ghost_coeffs-low_ghost.ensures c.high_ghost_coeffs-high_ghost.ensures in axis-scratch nan (upper binary64 a.grid.now dims) (solve binary64 a.grid.now dims) a.count a.dims a.axis _ _ _ _ x eu ev a.coeffs.now a.scratch.now c.solve_lines.ensures.scratch_after
+    let ev = solve-is binary64 a.grid.now dims a.axis c.axis_knots-knots.ensures c.low_ghost_coeffs-low_ghost.ensures c.high_ghost_coeffs-high_ghost.ensures in
+    record {
+      coeffs_after = axis-coefs nan (upper binary64 a.grid.now dims) (solve binary64 a.grid.now dims) a.count a.dims a.axis _ _ _ _ x eu ev a.coeffs.now a.scratch.now c.solve_lines.ensures.coeffs_after;
+      scratch_after = axis-scratch nan (upper binary64 a.grid.now dims) (solve binary64 a.grid.now dims) a.count a.dims a.axis _ _ _ _ x eu ev a.coeffs.now a.scratch.now c.solve_lines.ensures.scratch_after;
+    }

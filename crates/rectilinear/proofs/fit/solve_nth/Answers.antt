@@ -16,16 +16,13 @@ pub solve_checked-requires-clause-grid_len_bound : goal.solve_checked-requires-c
 solve_checked-requires-clause-grid_len_bound c =
     let p = c.requires in (line-room p.1 p.0 c.first_cell_of-base.ensures).1
 
-pub returns-clause-coeffs_after : goal.returns-clause-coeffs_after
-returns-clause-coeffs_after c =
+pub returns : goal.returns
+returns c =
     let a = c.args in
     let ks = a.grid.now in
     let upper = upper_number binary64 ks (ghost_numbers a.low_ghost) (ghost_numbers a.high_ghost) in
-    let solve = coefficient binary64 ks (ghost_numbers a.low_ghost) (ghost_numbers a.high_ghost) in nth-coefs nan upper solve (length ks) a.s a.m a.l _ a.coeffs.now a.scratch.now c.first_cell_of-base.ensures c.solve_checked.ensures.coeffs_after
-
-pub returns-clause-scratch_after : goal.returns-clause-scratch_after
-returns-clause-scratch_after c =
-    let a = c.args in
-    let ks = a.grid.now in
-    let upper = upper_number binary64 ks (ghost_numbers a.low_ghost) (ghost_numbers a.high_ghost) in
-    let solve = coefficient binary64 ks (ghost_numbers a.low_ghost) (ghost_numbers a.high_ghost) in nth-scratch nan upper solve (length ks) a.s a.m a.l _ a.coeffs.now a.scratch.now c.first_cell_of-base.ensures c.solve_checked.ensures.scratch_after
+    let solve = coefficient binary64 ks (ghost_numbers a.low_ghost) (ghost_numbers a.high_ghost) in
+    record {
+      coeffs_after = nth-coefs nan upper solve (length ks) a.s a.m a.l _ a.coeffs.now a.scratch.now c.first_cell_of-base.ensures c.solve_checked.ensures.coeffs_after;
+      scratch_after = nth-scratch nan upper solve (length ks) a.s a.m a.l _ a.coeffs.now a.scratch.now c.first_cell_of-base.ensures c.solve_checked.ensures.scratch_after;
+    }

@@ -11,17 +11,14 @@ use Rattle.rectilinear_blocks.proofs.Room.{roomy}
 use Rattle.rectilinear_blocks.proofs.Stages.{weights-are, slopes-are}
 use Rattle.rectilinear_blocks.proofs.block.gradients_block.Goals as goal
 
-pub place_axes-good-requires-clause-accepted : goal.place_axes-good-requires-clause-accepted
-place_axes-good-requires-clause-accepted c =
+pub place_axes-good-requires : goal.place_axes-good-requires
+place_axes-good-requires c =
     let z = c.zero_firsts in
     let l = c.requires.room.0 in
-    (c.requires.accepted.0, l.block, l.batch, l.coordinates, omega (arith, l.in-spots, z.auto.firsts))
-
-pub place_axes-good-requires-clause-by_index : goal.place_axes-good-requires-clause-by_index
-place_axes-good-requires-clause-by_index c =
-    let z = c.zero_firsts in
-    let l = c.requires.room.0 in
-    z.ensures
+    record {
+      accepted = (c.requires.accepted.0, l.block, l.batch, l.coordinates, omega (arith, l.in-spots, z.auto.firsts));
+      by_index = z.ensures;
+    }
 
 pub slope_axes-requires-clause-accepted : goal.slope_axes-requires-clause-accepted
 slope_axes-requires-clause-accepted c =
@@ -33,8 +30,8 @@ slope_axes-requires-clause-placed_to c =
     let g = c.place_axes-good in
     g.ensures
 
-pub sum_slopes-requires-clause-le_count : goal.sum_slopes-requires-clause-le_count
-sum_slopes-requires-clause-le_count c =
+pub sum_slopes-requires : goal.sum_slopes-requires
+sum_slopes-requires c =
     let d = c.slope_axes in
     let g = c.place_axes-good in
     let r = c.requires.accepted.0 in
@@ -42,18 +39,10 @@ sum_slopes-requires-clause-le_count c =
     let w = g.ensures.firsts in
     let one : c.args.map.count ≡ 1 = c.if-count-eq1.true in
     let fit : 1 * c.args.s.n ≤ length c.args.out.now = rw one at c.requires.accepted.2 in
-    (r.0.shape.some-axis, r.0.shape.at-most-four, last-stride r.0, omega (arith, w.most, l.block), omega (arith, w.most, l.batch, fit), omega (arith, w.most, l.block, l.in-spots, g.auto.spots, c.zero_firsts.auto.firsts))
-
-pub sum_slopes-requires-clause-rows_fit : goal.sum_slopes-requires-clause-rows_fit
-sum_slopes-requires-clause-rows_fit c =
-    let d = c.slope_axes in
-    let g = c.place_axes-good in
-    let r = c.requires.accepted.0 in
-    let l = c.requires.room.0 in
-    let w = g.ensures.firsts in
-    let one : c.args.map.count ≡ 1 = c.if-count-eq1.true in
-    let fit : 1 * c.args.s.n ≤ length c.args.out.now = rw one at c.requires.accepted.2 in
-    (omega (arith, c.requires.room.1, d.auto.work), entries-reach _ _ _ _ _ w (roomy binary64 _ _ r.0.four r.1) r.0.strides-are c.requires.accepted.1)
+    record {
+      le_count = (r.0.shape.some-axis, r.0.shape.at-most-four, last-stride r.0, omega (arith, w.most, l.block), omega (arith, w.most, l.batch, fit), omega (arith, w.most, l.block, l.in-spots, g.auto.spots, c.zero_firsts.auto.firsts));
+      rows_fit = (omega (arith, c.requires.room.1, d.auto.work), entries-reach _ _ _ _ _ w (roomy binary64 _ _ r.0.four r.1) r.0.strides-are c.requires.accepted.1);
+    }
 
 pub returns-then-count-eq1 : goal.returns-then-count-eq1
 returns-then-count-eq1 c =
@@ -71,25 +60,18 @@ weigh_axes-requires-clause-placed_to c =
     let g = c.place_axes-good in
     g.ensures
 
-pub sum_gradients-requires-clause-le_count : goal.sum_gradients-requires-clause-le_count
-sum_gradients-requires-clause-le_count c =
+pub sum_gradients-requires : goal.sum_gradients-requires
+sum_gradients-requires c =
     let v = c.weigh_axes in
     let d = c.slope_axes in
     let g = c.place_axes-good in
     let r = c.requires.accepted.0 in
     let l = c.requires.room.0 in
     let w = g.ensures.firsts in
-    (omega (arith, r.0.shape.some-axis, c.if-count-eq1.false), r.0.shape.at-most-four, last-stride r.0, omega (arith, w.most, l.block), omega (arith, w.most, l.batch), c.requires.accepted.2, omega (arith, w.most, l.block, l.in-spots, g.auto.spots, c.zero_firsts.auto.firsts))
-
-pub sum_gradients-requires-clause-rows_fit : goal.sum_gradients-requires-clause-rows_fit
-sum_gradients-requires-clause-rows_fit c =
-    let v = c.weigh_axes in
-    let d = c.slope_axes in
-    let g = c.place_axes-good in
-    let r = c.requires.accepted.0 in
-    let l = c.requires.room.0 in
-    let w = g.ensures.firsts in
-    (omega (arith, c.requires.room.1, d.auto.work, v.auto.work), entries-reach _ _ _ _ _ w (roomy binary64 _ _ r.0.four r.1) r.0.strides-are c.requires.accepted.1)
+    record {
+      le_count = (omega (arith, r.0.shape.some-axis, c.if-count-eq1.false), r.0.shape.at-most-four, last-stride r.0, omega (arith, w.most, l.block), omega (arith, w.most, l.batch), c.requires.accepted.2, omega (arith, w.most, l.block, l.in-spots, g.auto.spots, c.zero_firsts.auto.firsts));
+      rows_fit = (omega (arith, c.requires.room.1, d.auto.work, v.auto.work), entries-reach _ _ _ _ _ w (roomy binary64 _ _ r.0.four r.1) r.0.strides-are c.requires.accepted.1);
+    }
 
 pub returns : goal.returns
 returns c =

@@ -9,17 +9,14 @@ use Rattle.rectilinear_blocks.proofs.Room.{roomy}
 use Rattle.rectilinear_blocks.proofs.Stages.{weights-are}
 use Rattle.rectilinear_blocks.proofs.block.values_block.Goals as goal
 
-pub place_axes-good-requires-clause-accepted : goal.place_axes-good-requires-clause-accepted
-place_axes-good-requires-clause-accepted c =
+pub place_axes-good-requires : goal.place_axes-good-requires
+place_axes-good-requires c =
     let z = c.zero_firsts in
     let l = c.requires.room in
-    (c.requires.accepted.0, l.block, l.batch, l.coordinates, omega (arith, l.in-spots, z.auto.firsts))
-
-pub place_axes-good-requires-clause-by_index : goal.place_axes-good-requires-clause-by_index
-place_axes-good-requires-clause-by_index c =
-    let z = c.zero_firsts in
-    let l = c.requires.room in
-    z.ensures
+    record {
+      accepted = (c.requires.accepted.0, l.block, l.batch, l.coordinates, omega (arith, l.in-spots, z.auto.firsts));
+      by_index = z.ensures;
+    }
 
 pub weigh_axes-requires-clause-accepted : goal.weigh_axes-requires-clause-accepted
 weigh_axes-requires-clause-accepted c =

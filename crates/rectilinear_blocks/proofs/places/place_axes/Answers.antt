@@ -10,19 +10,16 @@ use Rattle.rectilinear_blocks.proofs.places.place_axes.Goals as goal
 pub loop-a-init : goal.loop-a-init
 loop-a-init c = placing-start _ _ _ _ _ c.requires.by_index
 
-pub place_next-good-requires-clause-accepted : goal.place_next-good-requires-clause-accepted
-place_next-good-requires-clause-accepted c =
+pub place_next-good-requires : goal.place_next-good-requires
+place_next-good-requires c =
     let h = c.loop-a-test.true in
     let w = c.loop-a.invariant in
     let r = c.requires.accepted.0 in
-    let most = w.so_far.firsts.most in (r, h, placing-small _ _ _ _ _ (roomy binary64 _ _ r.0.four r.1) w)
-
-pub place_next-good-requires-clause-good_in_bounds : goal.place_next-good-requires-clause-good_in_bounds
-place_next-good-requires-clause-good_in_bounds c =
-    let h = c.loop-a-test.true in
-    let w = c.loop-a.invariant in
-    let r = c.requires.accepted.0 in
-    let most = w.so_far.firsts.most in (block_inside _ _ _ h (omega (arith, most, c.requires.accepted.2)) c.requires.accepted.3, omega (arith, most, c.requires.accepted.1), omega (arith, most, c.requires.accepted.1, c.requires.accepted.4, w.length-spots, mul-le-mul_left c.args.s.cap h))
+    let most = w.so_far.firsts.most in
+    record {
+      accepted = (r, h, placing-small _ _ _ _ _ (roomy binary64 _ _ r.0.four r.1) w);
+      good_in_bounds = (block_inside _ _ _ h (omega (arith, most, c.requires.accepted.2)) c.requires.accepted.3, omega (arith, most, c.requires.accepted.1), omega (arith, most, c.requires.accepted.1, c.requires.accepted.4, w.length-spots, mul-le-mul_left c.args.s.cap h));
+    }
 
 pub loop-a-preserved : goal.loop-a-preserved
 loop-a-preserved c =

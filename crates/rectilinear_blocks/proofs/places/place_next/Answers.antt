@@ -20,21 +20,17 @@ overflow_add-a c = omega (arith, c.requires.good_in_bounds.0)
 pub overflow_mul-s : goal.overflow_mul-s
 overflow_mul-s c = omega (arith, c.requires.good_in_bounds.2)
 
-pub put_places-requires-clause-in_bounds : goal.put_places-requires-clause-in_bounds
-put_places-requires-clause-in_bounds c =
+pub put_places-requires : goal.put_places-requires
+put_places-requires c =
     let a = c.args in
     let m = a.map in
     let r = c.requires.accepted.0 in
     let part = c.axis_knots.ensures in
-    let sound = axis-sound m.count m.dims a.grid.now r.0.four r.1 a.a c.requires.accepted.1 part in (sound.0, sound.1, knots-cells m.count m.dims a.grid.now r.0.four r.1 a.a c.requires.accepted.1 r.0 part, c.requires.accepted.2)
-
-pub put_places-requires-clause-m_in_bounds : goal.put_places-requires-clause-m_in_bounds
-put_places-requires-clause-m_in_bounds c =
-    let a = c.args in
-    let m = a.map in
-    let r = c.requires.accepted.0 in
-    let part = c.axis_knots.ensures in
-    let sound = axis-sound m.count m.dims a.grid.now r.0.four r.1 a.a c.requires.accepted.1 part in (c.requires.good_in_bounds.0, omega (arith, c.requires.good_in_bounds.1), c.requires.good_in_bounds.2)
+    let sound = axis-sound m.count m.dims a.grid.now r.0.four r.1 a.a c.requires.accepted.1 part in
+    record {
+      in_bounds = (sound.0, sound.1, knots-cells m.count m.dims a.grid.now r.0.four r.1 a.a c.requires.accepted.1 r.0 part, c.requires.accepted.2);
+      m_in_bounds = (c.requires.good_in_bounds.0, omega (arith, c.requires.good_in_bounds.1), c.requires.good_in_bounds.2);
+    }
 
 pub returns : goal.returns
 returns c = rw c.axis_knots.ensures at c.put_places.ensures

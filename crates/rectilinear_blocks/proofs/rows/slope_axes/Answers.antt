@@ -11,23 +11,17 @@ use Rattle.rectilinear_blocks.proofs.rows.slope_axes.Goals as goal
 pub loop-a-init : goal.loop-a-init
 loop-a-init c = axes-begin _ _ _ _ _ _
 
-pub slope_next-requires-clause-accepted : goal.slope_next-requires-clause-accepted
-slope_next-requires-clause-accepted c =
+pub slope_next-requires : goal.slope_next-requires
+slope_next-requires c =
     let h = c.loop-a-test.true in
     let p = c.requires.placed_to in
     let a = c.loop-a.a in
     let l = axis-room c.requires.accepted.1 _ _ h p.firsts.most in
     let behind = mul-le-mul_left c.args.s.cap (let q : 4 + a + 1 ≤ 4 + c.args.map.count = omega (arith, h) in q) in
-    (c.requires.accepted.0, h, counted-on (map_of c.args.map) _ _ _ _ c.requires.accepted.0.1.shape.at-most-four _ h _ (λ k g. p.kept _ k h g))
-
-pub slope_next-requires-clause-good_in_bounds : goal.slope_next-requires-clause-good_in_bounds
-slope_next-requires-clause-good_in_bounds c =
-    let h = c.loop-a-test.true in
-    let p = c.requires.placed_to in
-    let a = c.loop-a.a in
-    let l = axis-room c.requires.accepted.1 _ _ h p.firsts.most in
-    let behind = mul-le-mul_left c.args.s.cap (let q : 4 + a + 1 ≤ 4 + c.args.map.count = omega (arith, h) in q) in
-    (l.coordinates, l.in-spots, omega (arith, behind, p.firsts.most, c.requires.accepted.1.block, c.requires.accepted.2, c.loop-a.invariant.length-rows))
+    record {
+      accepted = (c.requires.accepted.0, h, counted-on (map_of c.args.map) _ _ _ _ c.requires.accepted.0.1.shape.at-most-four _ h _ (λ k g. p.kept _ k h g));
+      good_in_bounds = (l.coordinates, l.in-spots, omega (arith, behind, p.firsts.most, c.requires.accepted.1.block, c.requires.accepted.2, c.loop-a.invariant.length-rows));
+    }
 
 pub loop-a-preserved : goal.loop-a-preserved
 loop-a-preserved c =

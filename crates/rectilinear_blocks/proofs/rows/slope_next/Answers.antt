@@ -28,19 +28,15 @@ overflow_add-a-3 c = omega (arith, c.requires.accepted.1, c.requires.accepted.0.
 pub overflow_mul-s-2 : goal.overflow_mul-s-2
 overflow_mul-s-2 c = omega (arith, c.requires.good_in_bounds.2, c.well_formed)
 
-pub put_slopes-requires-clause-in_bounds : goal.put_slopes-requires-clause-in_bounds
-put_slopes-requires-clause-in_bounds c =
+pub put_slopes-requires : goal.put_slopes-requires
+put_slopes-requires c =
     let m = c.args.map in
     let r = c.requires.accepted.0 in
     let part = c.axis_knots.ensures in
-    ((axis-sound m.count m.dims c.args.grid.now r.0.four r.1 c.args.a c.requires.accepted.1 part).0, c.requires.good_in_bounds.0, c.requires.good_in_bounds.1, c.requires.good_in_bounds.2)
-
-pub put_slopes-requires-clause-counted : goal.put_slopes-requires-clause-counted
-put_slopes-requires-clause-counted c =
-    let m = c.args.map in
-    let r = c.requires.accepted.0 in
-    let part = c.axis_knots.ensures in
-    rw part c.requires.accepted.2
+    record {
+      in_bounds = ((axis-sound m.count m.dims c.args.grid.now r.0.four r.1 c.args.a c.requires.accepted.1 part).0, c.requires.good_in_bounds.0, c.requires.good_in_bounds.1, c.requires.good_in_bounds.2);
+      counted = rw part c.requires.accepted.2;
+    }
 
 pub returns : goal.returns
 returns c =

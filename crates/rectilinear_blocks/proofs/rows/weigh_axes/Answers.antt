@@ -9,19 +9,15 @@ use Rattle.rectilinear_blocks.proofs.rows.weigh_axes.Goals as goal
 pub loop-a-init : goal.loop-a-init
 loop-a-init c = axes-begin _ _ _ _ _ _
 
-pub weigh_next-requires-clause-accepted : goal.weigh_next-requires-clause-accepted
-weigh_next-requires-clause-accepted c =
+pub weigh_next-requires : goal.weigh_next-requires
+weigh_next-requires c =
     let h = c.loop-a-test.true in
     let p = c.requires.placed_to in
     let l = axis-room (room_as refl c.loop-a.invariant.length-rows c.requires.accepted.1) _ _ h p.firsts.most in
-    (c.requires.accepted.0, h, counted-on (map_of c.args.map) _ _ _ _ c.requires.accepted.0.1.shape.at-most-four _ h _ (λ k g. p.kept _ k h g))
-
-pub weigh_next-requires-clause-good_in_bounds : goal.weigh_next-requires-clause-good_in_bounds
-weigh_next-requires-clause-good_in_bounds c =
-    let h = c.loop-a-test.true in
-    let p = c.requires.placed_to in
-    let l = axis-room (room_as refl c.loop-a.invariant.length-rows c.requires.accepted.1) _ _ h p.firsts.most in
-    (l.coordinates, l.in-spots, l.in-work)
+    record {
+      accepted = (c.requires.accepted.0, h, counted-on (map_of c.args.map) _ _ _ _ c.requires.accepted.0.1.shape.at-most-four _ h _ (λ k g. p.kept _ k h g));
+      good_in_bounds = (l.coordinates, l.in-spots, l.in-work);
+    }
 
 pub loop-a-preserved : goal.loop-a-preserved
 loop-a-preserved c =

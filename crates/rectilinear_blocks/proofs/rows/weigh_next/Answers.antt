@@ -25,19 +25,15 @@ overflow_mul-s c = omega (arith, c.requires.good_in_bounds.1, c.well_formed)
 pub overflow_mul-s-2 : goal.overflow_mul-s-2
 overflow_mul-s-2 c = omega (arith, c.requires.good_in_bounds.2, c.well_formed)
 
-pub put_weights-requires-clause-in_bounds : goal.put_weights-requires-clause-in_bounds
-put_weights-requires-clause-in_bounds c =
+pub put_weights-requires : goal.put_weights-requires
+put_weights-requires c =
     let m = c.args.map in
     let r = c.requires.accepted.0 in
     let part = c.axis_knots.ensures in
-    ((axis-sound m.count m.dims c.args.grid.now r.0.four r.1 c.args.a c.requires.accepted.1 part).0, c.requires.good_in_bounds.0, c.requires.good_in_bounds.1, c.requires.good_in_bounds.2)
-
-pub put_weights-requires-clause-counted : goal.put_weights-requires-clause-counted
-put_weights-requires-clause-counted c =
-    let m = c.args.map in
-    let r = c.requires.accepted.0 in
-    let part = c.axis_knots.ensures in
-    rw part c.requires.accepted.2
+    record {
+      in_bounds = ((axis-sound m.count m.dims c.args.grid.now r.0.four r.1 c.args.a c.requires.accepted.1 part).0, c.requires.good_in_bounds.0, c.requires.good_in_bounds.1, c.requires.good_in_bounds.2);
+      counted = rw part c.requires.accepted.2;
+    }
 
 pub returns : goal.returns
 returns c =

@@ -9,19 +9,15 @@ loop-from-init c = (running-start _ _ _, (refl, refl))
 pub block_size-m-requires : goal.block_size-m-requires
 block_size-m-requires c = c.loop-from-test.true
 
-pub values_block-good-requires-clause-accepted : goal.values_block-good-requires-clause-accepted
-values_block-good-requires-clause-accepted c =
+pub values_block-good-requires : goal.values_block-good-requires
+values_block-good-requires c =
     let b = c.block_size-m.ensures in
     let w = c.loop-from.invariant in
     let few = c.requires.accepted.0.0.shape.at-most-four in
-    (c.requires.accepted.0, c.requires.accepted.1, omega (arith, w.0.length-out, c.requires.n_in_bounds.1))
-
-pub values_block-good-requires-clause-room : goal.values_block-good-requires-clause-room
-values_block-good-requires-clause-room c =
-    let b = c.block_size-m.ensures in
-    let w = c.loop-from.invariant in
-    let few = c.requires.accepted.0.0.shape.at-most-four in
-    record { block = b.1; batch = b.2; coordinates = c.requires.n_in_bounds.0; in-spots = omega (arith, few, c.requires.n_in_bounds.2, w.1.0); in-work = omega (arith, few, c.requires.n_in_bounds.3, w.1.1) }
+    record {
+      accepted = (c.requires.accepted.0, c.requires.accepted.1, omega (arith, w.0.length-out, c.requires.n_in_bounds.1));
+      room = record { block = b.1; batch = b.2; coordinates = c.requires.n_in_bounds.0; in-spots = omega (arith, few, c.requires.n_in_bounds.2, w.1.0); in-work = omega (arith, few, c.requires.n_in_bounds.3, w.1.1) };
+    }
 
 pub shape_of-spots-then-good-m : goal.shape_of-spots-then-good-m
 shape_of-spots-then-good-m c = c.values_block-good.auto.spots ∙ c.loop-from.invariant.1.0

@@ -7,17 +7,14 @@ use Rattle.rectilinear_map.proofs.of_grid.put_weights.Goals as goal
 pub loop-a-init : goal.loop-a-init
 loop-a-init c = rows-begin _ _ _ _
 
-pub axis_weights-requires-clause-usable : goal.axis_weights-requires-clause-usable
-axis_weights-requires-clause-usable c =
+pub axis_weights-requires : goal.axis_weights-requires
+axis_weights-requires c =
     let p = c.requires.usable in
     let h = c.loop-a-test.true in
-    (p.0, p.1, h, p.2, p.3)
-
-pub axis_weights-requires-clause-a_value : goal.axis_weights-requires-clause-a_value
-axis_weights-requires-clause-a_value c =
-    let p = c.requires.usable in
-    let h = c.loop-a-test.true in
-    c.requires.by_index _ h
+    record {
+      usable = (p.0, p.1, h, p.2, p.3);
+      a_value = c.requires.by_index _ h;
+    }
 
 pub put_row-requires : goal.put_row-requires
 put_row-requires c = omega (arith, c.loop-a.invariant.length-rows, c.loop-a-test.true, c.requires.usable.4)

@@ -25,21 +25,16 @@ returns-then-good-lt1 c =
     let none : g.result ≡ 0 = omega (arith, c.if-good-lt1.true) in
     value-refused _ _ (rw none at (entry-stops _ _ _ _ _ (own-firsts binary64 (map_of a.map) a.grid.now a.x.now g.ensures) c.if-good-lt1.true))
 
-pub put_weights-requires-clause-usable : goal.put_weights-requires-clause-usable
-put_weights-requires-clause-usable c =
+pub put_weights-requires : goal.put_weights-requires
+put_weights-requires c =
     let a = c.args in
     let g = c.place_axes-good in
     let r = c.requires.0.1 in
     let few = r.shape.at-most-four in
-    (r.shape, r.joined, c.requires.2, omega (arith, few, g.auto.spots), omega (arith, few))
-
-pub put_weights-requires-clause-by_index : goal.put_weights-requires-clause-by_index
-put_weights-requires-clause-by_index c =
-    let a = c.args in
-    let g = c.place_axes-good in
-    let r = c.requires.0.1 in
-    let few = r.shape.at-most-four in
-    kept-counts binary64 (map_of a.map) a.grid.now a.x.now g.ensures few c.if-good-lt1.false
+    record {
+      usable = (r.shape, r.joined, c.requires.2, omega (arith, few, g.auto.spots), omega (arith, few));
+      by_index = kept-counts binary64 (map_of a.map) a.grid.now a.x.now g.ensures few c.if-good-lt1.false;
+    }
 
 pub put_values-requires : goal.put_values-requires
 put_values-requires c =

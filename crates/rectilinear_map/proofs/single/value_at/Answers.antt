@@ -22,17 +22,14 @@ returns-then-good-lt1 c =
     let none : g.result ≡ 0 = omega (arith, c.if-good-lt1.true) in
     value-refused _ _ (rw none at (entry-stops _ _ _ _ _ g.ensures.firsts c.if-good-lt1.true))
 
-pub weigh_axes-requires-clause-accepted : goal.weigh_axes-requires-clause-accepted
-weigh_axes-requires-clause-accepted c =
+pub weigh_axes-requires : goal.weigh_axes-requires
+weigh_axes-requires c =
     let g = c.place_axes-good in
     let few = c.requires.0.0.shape.at-most-four in
-    (c.requires.0, record { block = omega arith; batch = omega arith; coordinates = omega (arith, c.requires.2); in-spots = omega (arith, few, g.auto.spots); in-work = omega (arith, few) })
-
-pub weigh_axes-requires-clause-placed_to : goal.weigh_axes-requires-clause-placed_to
-weigh_axes-requires-clause-placed_to c =
-    let g = c.place_axes-good in
-    let few = c.requires.0.0.shape.at-most-four in
-    g.ensures
+    record {
+      accepted = (c.requires.0, record { block = omega arith; batch = omega arith; coordinates = omega (arith, c.requires.2); in-spots = omega (arith, few, g.auto.spots); in-work = omega (arith, few) });
+      placed_to = g.ensures;
+    }
 
 pub put_values-requires : goal.put_values-requires
 put_values-requires c =

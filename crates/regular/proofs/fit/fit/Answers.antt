@@ -18,17 +18,14 @@ copy-requires c =
     let r = fit-range a.count a.dims (length a.vals.now) (length a.coeffs.now) (length a.scratch.now) c.in_default.is c.check_fit.ensures (omega (arith, c.well_formed)) in
     r.samples-are ∙ sym r.coefs-are
 
-pub solve_axes-requires-clause-usable : goal.solve_axes-requires-clause-usable
-solve_axes-requires-clause-usable c =
+pub solve_axes-requires : goal.solve_axes-requires
+solve_axes-requires c =
     let a = c.args in
     let r = fit-range a.count a.dims (length a.vals.now) (length a.coeffs.now) (length a.scratch.now) c.in_default.is c.check_fit.ensures (omega (arith, c.well_formed)) in
-    r.shape
-
-pub solve_axes-requires-clause-coeffs_len : goal.solve_axes-requires-clause-coeffs_len
-solve_axes-requires-clause-coeffs_len c =
-    let a = c.args in
-    let r = fit-range a.count a.dims (length a.vals.now) (length a.coeffs.now) (length a.scratch.now) c.in_default.is c.check_fit.ensures (omega (arith, c.well_formed)) in
-    (ap length c.copy.ensures ∙ r.samples-are, r.scratch-room)
+    record {
+      usable = r.shape;
+      coeffs_len = (ap length c.copy.ensures ∙ r.samples-are, r.scratch-room);
+    }
 
 pub returns : goal.returns
 returns c =

@@ -31,14 +31,11 @@ shape_of-coeffs c = c.loop-axis.invariant.length-xs
 pub shape_of-scratch : goal.shape_of-scratch
 shape_of-scratch c = c.loop-axis.invariant.length-ss
 
-pub returns-clause-coeffs_after : goal.returns-clause-coeffs_after
-returns-clause-coeffs_after c =
+pub returns : goal.returns
+returns c =
     let axes : length (take c.args.count c.args.dims) ≡ c.args.count = axes-are c.args.count c.args.dims (omega (arith, c.well_formed)) c.requires.usable in
     let all : length (take c.args.count c.args.dims) ≤ c.loop-axis.axis = rw axes c.loop-axis-test.false in
-    axes-coefs nan _ _ _ c.loop-axis.invariant all
-
-pub returns-clause-scratch_after : goal.returns-clause-scratch_after
-returns-clause-scratch_after c =
-    let axes : length (take c.args.count c.args.dims) ≡ c.args.count = axes-are c.args.count c.args.dims (omega (arith, c.well_formed)) c.requires.usable in
-    let all : length (take c.args.count c.args.dims) ≤ c.loop-axis.axis = rw axes c.loop-axis-test.false in
-    axes-scratch nan _ _ _ c.loop-axis.invariant all
+    record {
+      coeffs_after = axes-coefs nan _ _ _ c.loop-axis.invariant all;
+      scratch_after = axes-scratch nan _ _ _ c.loop-axis.invariant all;
+    }

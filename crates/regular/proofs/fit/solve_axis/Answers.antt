@@ -9,32 +9,24 @@ use Rattle.regular_lines.specs.Rows.{coefficient, upper_number}
 use Rattle.regular.specs.Fit.{solve, upper}
 use Rattle.regular.proofs.fit.solve_axis.Goals as goal
 
-pub solve_lines-requires-clause-lines_nonzero : goal.solve_lines-requires-clause-lines_nonzero
-solve_lines-requires-clause-lines_nonzero c =
+pub solve_lines-requires : goal.solve_lines-requires
+solve_lines-requires c =
     let a = c.args in
     let four : length a.dims ≡ 4 = omega (arith, c.well_formed) in
     let x = axis-is a.count a.dims four c.requires.axis_lt_count.1 a.axis c.requires.axis_lt_count.0 refl c.stride-s.ensures c.lines-lines.ensures c.longest-m.ensures in
     let inside = axis-within a.count a.dims four c.requires.axis_lt_count.1 a.axis c.requires.axis_lt_count.0 x c.requires.coeffs_len.0 c.requires.coeffs_len.1 in
-    inside
+    record {
+      lines_nonzero = inside;
+      s_value = axis-whole x inside.1.stride-pos;
+    }
 
-pub solve_lines-requires-clause-s_value : goal.solve_lines-requires-clause-s_value
-solve_lines-requires-clause-s_value c =
-    let a = c.args in
-    let four : length a.dims ≡ 4 = omega (arith, c.well_formed) in
-    let x = axis-is a.count a.dims four c.requires.axis_lt_count.1 a.axis c.requires.axis_lt_count.0 refl c.stride-s.ensures c.lines-lines.ensures c.longest-m.ensures in
-    let inside = axis-within a.count a.dims four c.requires.axis_lt_count.1 a.axis c.requires.axis_lt_count.0 x c.requires.coeffs_len.0 c.requires.coeffs_len.1 in
-    axis-whole x inside.1.stride-pos
-
-pub returns-clause-coeffs_after : goal.returns-clause-coeffs_after
-returns-clause-coeffs_after c =
+pub returns : goal.returns
+returns c =
     let a = c.args in
     let x = axis-is a.count a.dims (omega (arith, c.well_formed)) c.requires.axis_lt_count.1 a.axis c.requires.axis_lt_count.0 refl c.stride-s.ensures c.lines-lines.ensures c.longest-m.ensures in
     let eu = ap (upper_number binary64) x.the-points in
-    let ev = ap (coefficient binary64) x.the-points in axis-coefs nan (upper binary64 (take a.count a.dims)) (solve binary64 (take a.count a.dims)) a.count a.dims a.axis _ _ _ _ x eu ev a.coeffs.now a.scratch.now c.solve_lines.ensures.coeffs_after
-
-pub returns-clause-scratch_after : goal.returns-clause-scratch_after
-returns-clause-scratch_after c =
-    let a = c.args in
-    let x = axis-is a.count a.dims (omega (arith, c.well_formed)) c.requires.axis_lt_count.1 a.axis c.requires.axis_lt_count.0 refl c.stride-s.ensures c.lines-lines.ensures c.longest-m.ensures in
-    let eu = ap (upper_number binary64) x.the-points in
-    let ev = ap (coefficient binary64) x.the-points in axis-scratch nan (upper binary64 (take a.count a.dims)) (solve binary64 (take a.count a.dims)) a.count a.dims a.axis _ _ _ _ x eu ev a.coeffs.now a.scratch.now c.solve_lines.ensures.scratch_after
+    let ev = ap (coefficient binary64) x.the-points in
+    record {
+      coeffs_after = axis-coefs nan (upper binary64 (take a.count a.dims)) (solve binary64 (take a.count a.dims)) a.count a.dims a.axis _ _ _ _ x eu ev a.coeffs.now a.scratch.now c.solve_lines.ensures.coeffs_after;
+      scratch_after = axis-scratch nan (upper binary64 (take a.count a.dims)) (solve binary64 (take a.count a.dims)) a.count a.dims a.axis _ _ _ _ x eu ev a.coeffs.now a.scratch.now c.solve_lines.ensures.scratch_after;
+    }

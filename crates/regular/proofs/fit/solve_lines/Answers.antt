@@ -8,12 +8,11 @@ pub solve_nth-requires : goal.solve_nth-requires
 solve_nth-requires c =
     (let pos = c.requires.lines_nonzero.0 in omega arith, c.requires.lines_nonzero.1)
 
-pub returns-then-lines-eq1-clause-coeffs_after : goal.returns-then-lines-eq1-clause-coeffs_after
-returns-then-lines-eq1-clause-coeffs_after c =
+pub returns-then-lines-eq1 : goal.returns-then-lines-eq1
+returns-then-lines-eq1 c =
     let one = c.if-lines-eq1.true in
-    let a = c.args in lone-coefs (upper_number binary64 a.n) (coefficient binary64 a.n) a.n a.s a.lines a.m a.coeffs.now a.scratch.now one _ c.solve_nth.ensures.coeffs_after
-
-pub returns-then-lines-eq1-clause-scratch_after : goal.returns-then-lines-eq1-clause-scratch_after
-returns-then-lines-eq1-clause-scratch_after c =
-    let one = c.if-lines-eq1.true in
-    let a = c.args in lone-leaves (upper_number binary64 a.n) (coefficient binary64 a.n) a.n a.s a.lines a.m a.coeffs.now a.scratch.now one _ c.solve_nth.ensures.scratch_after
+    let a = c.args in
+    record {
+      coeffs_after = lone-coefs (upper_number binary64 a.n) (coefficient binary64 a.n) a.n a.s a.lines a.m a.coeffs.now a.scratch.now one _ c.solve_nth.ensures.coeffs_after;
+      scratch_after = lone-leaves (upper_number binary64 a.n) (coefficient binary64 a.n) a.n a.s a.lines a.m a.coeffs.now a.scratch.now one _ c.solve_nth.ensures.scratch_after;
+    }

@@ -27,8 +27,8 @@ slope_axes-requires c =
     let l = c.requires.room.0 in
     (c.requires.accepted.0.shape.at-most-four, omega (arith, (g.ensures c.args.grid.linear).firsts.most, l.block), omega (arith, l.in-spots, g.auto.spots, z.auto.firsts), omega (arith, c.requires.room.1, g.auto.work))
 
-pub sum_slopes-requires-clause-le_count : goal.sum_slopes-requires-clause-le_count
-sum_slopes-requires-clause-le_count c =
+pub sum_slopes-requires : goal.sum_slopes-requires
+sum_slopes-requires c =
     let d = c.slope_axes in
     let g = c.place_axes-good in
     let z = c.zero_firsts in
@@ -37,19 +37,10 @@ sum_slopes-requires-clause-le_count c =
     let w = (g.ensures c.args.grid.linear).firsts in
     let one : c.args.grid.count ≡ 1 = c.if-count-eq1.true in
     let fit : 1 * c.args.s.n ≤ length c.args.out.now = rw one at c.requires.accepted.2 in
-    (r.shape.some-axis, r.shape.at-most-four, last-stride r, omega (arith, w.most, l.block), omega (arith, w.most, l.batch, fit), omega (arith, w.most, l.block, l.in-spots, g.auto.spots, z.auto.firsts))
-
-pub sum_slopes-requires-clause-rows_fit : goal.sum_slopes-requires-clause-rows_fit
-sum_slopes-requires-clause-rows_fit c =
-    let d = c.slope_axes in
-    let g = c.place_axes-good in
-    let z = c.zero_firsts in
-    let r = c.requires.accepted.0 in
-    let l = c.requires.room.0 in
-    let w = (g.ensures c.args.grid.linear).firsts in
-    let one : c.args.grid.count ≡ 1 = c.if-count-eq1.true in
-    let fit : 1 * c.args.s.n ≤ length c.args.out.now = rw one at c.requires.accepted.2 in
-    (omega (arith, c.requires.room.1, g.auto.work, d.auto.work), entries-reach _ _ _ _ _ w (roomy binary64 _ r.four r.shape) r.strides-are c.requires.accepted.1)
+    record {
+      le_count = (r.shape.some-axis, r.shape.at-most-four, last-stride r, omega (arith, w.most, l.block), omega (arith, w.most, l.batch, fit), omega (arith, w.most, l.block, l.in-spots, g.auto.spots, z.auto.firsts));
+      rows_fit = (omega (arith, c.requires.room.1, g.auto.work, d.auto.work), entries-reach _ _ _ _ _ w (roomy binary64 _ r.four r.shape) r.strides-are c.requires.accepted.1);
+    }
 
 pub returns-then-count-eq1 : goal.returns-then-count-eq1
 returns-then-count-eq1 c =
@@ -67,8 +58,8 @@ weigh_axes-requires c =
     let l = c.requires.room.0 in
     (omega (arith, (g.ensures c.args.grid.linear).firsts.most, l.block), omega (arith, l.in-spots, g.auto.spots, z.auto.firsts), omega (arith, l.in-work, g.auto.work, d.auto.work))
 
-pub sum_gradients-requires-clause-le_count : goal.sum_gradients-requires-clause-le_count
-sum_gradients-requires-clause-le_count c =
+pub sum_gradients-requires : goal.sum_gradients-requires
+sum_gradients-requires c =
     let v = c.weigh_axes in
     let d = c.slope_axes in
     let g = c.place_axes-good in
@@ -76,18 +67,10 @@ sum_gradients-requires-clause-le_count c =
     let r = c.requires.accepted.0 in
     let l = c.requires.room.0 in
     let w = (g.ensures c.args.grid.linear).firsts in
-    (omega (arith, r.shape.some-axis, c.if-count-eq1.false), r.shape.at-most-four, last-stride r, omega (arith, w.most, l.block), omega (arith, w.most, l.batch), c.requires.accepted.2, omega (arith, w.most, l.block, l.in-spots, g.auto.spots, z.auto.firsts))
-
-pub sum_gradients-requires-clause-rows_fit : goal.sum_gradients-requires-clause-rows_fit
-sum_gradients-requires-clause-rows_fit c =
-    let v = c.weigh_axes in
-    let d = c.slope_axes in
-    let g = c.place_axes-good in
-    let z = c.zero_firsts in
-    let r = c.requires.accepted.0 in
-    let l = c.requires.room.0 in
-    let w = (g.ensures c.args.grid.linear).firsts in
-    (omega (arith, c.requires.room.1, g.auto.work, d.auto.work, v.auto.work), entries-reach _ _ _ _ _ w (roomy binary64 _ r.four r.shape) r.strides-are c.requires.accepted.1)
+    record {
+      le_count = (omega (arith, r.shape.some-axis, c.if-count-eq1.false), r.shape.at-most-four, last-stride r, omega (arith, w.most, l.block), omega (arith, w.most, l.batch), c.requires.accepted.2, omega (arith, w.most, l.block, l.in-spots, g.auto.spots, z.auto.firsts));
+      rows_fit = (omega (arith, c.requires.room.1, g.auto.work, d.auto.work, v.auto.work), entries-reach _ _ _ _ _ w (roomy binary64 _ r.four r.shape) r.strides-are c.requires.accepted.1);
+    }
 
 pub shape_of-spots : goal.shape_of-spots
 shape_of-spots c = c.place_axes-good.auto.spots ∙ c.zero_firsts.auto.firsts

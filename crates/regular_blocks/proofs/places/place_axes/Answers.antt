@@ -10,19 +10,15 @@ use Rattle.regular_blocks.proofs.places.place_axes.Goals as goal
 pub loop-a-init : goal.loop-a-init
 loop-a-init c = ((λ linear. placing-start _ _ _ _ _ c.requires.by_index), refl)
 
-pub place_next-good-requires-clause-a_bound : goal.place_next-good-requires-clause-a_bound
-place_next-good-requires-clause-a_bound c =
+pub place_next-good-requires : goal.place_next-good-requires
+place_next-good-requires c =
     let h = c.loop-a-test.true in
     let w = c.loop-a.invariant.0 true in
     let r = c.requires.ready.0 in
-    (omega (arith, h, r.shape.at-most-four), axis-ready _ r h, placing-small _ _ _ _ _ (roomy binary64 _ r.four r.shape) w)
-
-pub place_next-good-requires-clause-axis_room : goal.place_next-good-requires-clause-axis_room
-place_next-good-requires-clause-axis_room c =
-    let h = c.loop-a-test.true in
-    let w = c.loop-a.invariant.0 true in
-    let r = c.requires.ready.0 in
-    axis-room (room_as w.length-spots c.loop-a.invariant.1 c.requires.ready.1) _ _ h w.so_far.firsts.most
+    record {
+      a_bound = (omega (arith, h, r.shape.at-most-four), axis-ready _ r h, placing-small _ _ _ _ _ (roomy binary64 _ r.four r.shape) w);
+      axis_room = axis-room (room_as w.length-spots c.loop-a.invariant.1 c.requires.ready.1) _ _ h w.so_far.firsts.most;
+    }
 
 pub loop-a-preserved : goal.loop-a-preserved
 loop-a-preserved c =

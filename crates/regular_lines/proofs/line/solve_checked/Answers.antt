@@ -6,18 +6,14 @@ use Rattle.multibspline.proofs.Sweeps.{line-scratch, line-coeffs}
 use Rattle.regular_lines.specs.Rows.{first_row, row}
 use Rattle.regular_lines.proofs.line.solve_checked.Goals as goal
 
-pub returns-clause-coeffs_after : goal.returns-clause-coeffs_after
-returns-clause-coeffs_after c =
+pub returns : goal.returns
+returns c =
     let a = c.args in
     let y = line nan a.base a.stride a.coeffs.now in
     let fits = c.requires.n_le_m in
     let e = c.forward.ensures in
-    let b = c.back_substitute.ensures in b.coeffs_after ∙ line-coeffs binary64 (first_row binary64 y) (row binary64 a.n y) a.n a.m _ _ _ (omega arith) fits.0 fits.1 e b.scratch_after (on_line a.base a.stride) _
-
-pub returns-clause-scratch_after : goal.returns-clause-scratch_after
-returns-clause-scratch_after c =
-    let a = c.args in
-    let y = line nan a.base a.stride a.coeffs.now in
-    let fits = c.requires.n_le_m in
-    let e = c.forward.ensures in
-    let b = c.back_substitute.ensures in line-scratch binary64 (first_row binary64 y) (row binary64 a.n y) a.n a.m _ _ _ (omega arith) fits.0 fits.1 e b.scratch_after
+    let b = c.back_substitute.ensures in
+    record {
+      coeffs_after = b.coeffs_after ∙ line-coeffs binary64 (first_row binary64 y) (row binary64 a.n y) a.n a.m _ _ _ (omega arith) fits.0 fits.1 e b.scratch_after (on_line a.base a.stride) _;
+      scratch_after = line-scratch binary64 (first_row binary64 y) (row binary64 a.n y) a.n a.m _ _ _ (omega arith) fits.0 fits.1 e b.scratch_after;
+    }

@@ -9,25 +9,23 @@ loop-from-init c = (running-start _ _ _, (refl, refl))
 pub block_size-m-requires : goal.block_size-m-requires
 block_size-m-requires c = c.loop-from-test.true
 
-pub gradients_block-good-requires-clause-accepted : goal.gradients_block-good-requires-clause-accepted
-gradients_block-good-requires-clause-accepted c =
+pub gradients_block-good-requires : goal.gradients_block-good-requires
+gradients_block-good-requires c =
     let b = c.block_size-m.ensures in
     let w = c.loop-from.invariant in
-    (c.requires.accepted.0, c.requires.accepted.1, omega (arith, w.0.length-out, c.requires.n_in_bounds.1))
-
-pub gradients_block-good-requires-clause-room : goal.gradients_block-good-requires-clause-room
-gradients_block-good-requires-clause-room c =
-    let b = c.block_size-m.ensures in
-    let w = c.loop-from.invariant in (
-      record {
-        block = b.1;
-        batch = b.2;
-        coordinates = c.requires.n_in_bounds.0;
-        in-spots = omega (arith, c.requires.accepted.0.shape.at-most-four, c.requires.n_in_bounds.2, w.1.0);
-        in-work = omega (arith, c.requires.accepted.0.shape.at-most-four, c.requires.n_in_bounds.3, w.1.1);
-      },
-      omega (arith, c.requires.accepted.0.shape.at-most-four, c.requires.n_in_bounds.3, w.1.1),
-    )
+    record {
+      accepted = (c.requires.accepted.0, c.requires.accepted.1, omega (arith, w.0.length-out, c.requires.n_in_bounds.1));
+      room = (
+        record {
+          block = b.1;
+          batch = b.2;
+          coordinates = c.requires.n_in_bounds.0;
+          in-spots = omega (arith, c.requires.accepted.0.shape.at-most-four, c.requires.n_in_bounds.2, w.1.0);
+          in-work = omega (arith, c.requires.accepted.0.shape.at-most-four, c.requires.n_in_bounds.3, w.1.1);
+        },
+        omega (arith, c.requires.accepted.0.shape.at-most-four, c.requires.n_in_bounds.3, w.1.1),
+      );
+    }
 
 pub shape_of-spots-then-good-m : goal.shape_of-spots-then-good-m
 shape_of-spots-then-good-m c = c.gradients_block-good.auto.spots ∙ c.loop-from.invariant.1.0

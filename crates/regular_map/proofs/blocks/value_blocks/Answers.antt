@@ -9,22 +9,19 @@ loop-from-init c = (running-start _ _ _, (refl, refl))
 pub block_size-m-requires : goal.block_size-m-requires
 block_size-m-requires c = c.loop-from-test.true
 
-pub values_block-valued-requires-clause-accepted : goal.values_block-valued-requires-clause-accepted
-values_block-valued-requires-clause-accepted c =
-    let b = c.block_size-m.ensures in
-    let w = c.loop-from.invariant in
-    (c.requires.accepted.0, c.requires.accepted.1, omega (arith, w.0.length-out, c.requires.n_in_bounds.1))
-
-pub values_block-valued-requires-clause-room : goal.values_block-valued-requires-clause-room
-values_block-valued-requires-clause-room c =
+pub values_block-valued-requires : goal.values_block-valued-requires
+values_block-valued-requires c =
     let b = c.block_size-m.ensures in
     let w = c.loop-from.invariant in
     record {
-      block = b.1;
-      batch = b.2;
-      coordinates = c.requires.n_in_bounds.0;
-      in-spots = omega (arith, c.requires.accepted.0.shape.at-most-four, c.requires.n_in_bounds.2, w.1.0);
-      in-work = omega (arith, c.requires.accepted.0.shape.at-most-four, c.requires.n_in_bounds.3, w.1.1);
+      accepted = (c.requires.accepted.0, c.requires.accepted.1, omega (arith, w.0.length-out, c.requires.n_in_bounds.1));
+      room = record {
+        block = b.1;
+        batch = b.2;
+        coordinates = c.requires.n_in_bounds.0;
+        in-spots = omega (arith, c.requires.accepted.0.shape.at-most-four, c.requires.n_in_bounds.2, w.1.0);
+        in-work = omega (arith, c.requires.accepted.0.shape.at-most-four, c.requires.n_in_bounds.3, w.1.1);
+      };
     }
 
 pub shape_of-spots-then-valued-m : goal.shape_of-spots-then-valued-m

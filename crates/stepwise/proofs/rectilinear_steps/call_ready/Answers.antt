@@ -17,17 +17,14 @@ find_due-requires c =
     let p = call-ready a.count a.dims (grid_check (take a.count a.dims) a.grid.now) (knots_check (take a.count a.dims) a.grid.now) (grid-positive (take a.count a.dims) a.grid.now) (knots-positive (take a.count a.dims) a.grid.now) (length a.coeffs.now) (length a.ledger.now) (length a.scratch.now) (omega (arith, c.well_formed)) c.requires in
     (p.shape, p.ledger-size)
 
-pub solve_found-requires-clause-axis_lt_count : goal.solve_found-requires-clause-axis_lt_count
-solve_found-requires-clause-axis_lt_count c =
+pub solve_found-requires : goal.solve_found-requires
+solve_found-requires c =
     let a = c.args in
     let p = line-due a.count a.dims (grid_check (take a.count a.dims) a.grid.now) (knots_check (take a.count a.dims) a.grid.now) (grid-positive (take a.count a.dims) a.grid.now) (knots-positive (take a.count a.dims) a.grid.now) (record { axis = a.axis; line = a.line; scratch = a.scratch.now }) (record { coefs = a.coeffs.now; ledger = a.ledger.now }) c.requires (omega (arith, c.well_formed)) c.in-At.is c.find_due.ensures in
-    (p.is-axis, p.ready.shape, joined_is (take a.count a.dims) a.grid.now p.ready.ready.grid-passed, p.numbers.the-points)
-
-pub solve_found-requires-clause-line_fits : goal.solve_found-requires-clause-line_fits
-solve_found-requires-clause-line_fits c =
-    let a = c.args in
-    let p = line-due a.count a.dims (grid_check (take a.count a.dims) a.grid.now) (knots_check (take a.count a.dims) a.grid.now) (grid-positive (take a.count a.dims) a.grid.now) (knots-positive (take a.count a.dims) a.grid.now) (record { axis = a.axis; line = a.line; scratch = a.scratch.now }) (record { coefs = a.coeffs.now; ledger = a.ledger.now }) c.requires (omega (arith, c.well_formed)) c.in-At.is c.find_due.ensures in
-    p.fits
+    record {
+      axis_lt_count = (p.is-axis, p.ready.shape, joined_is (take a.count a.dims) a.grid.now p.ready.ready.grid-passed, p.numbers.the-points);
+      line_fits = p.fits;
+    }
 
 pub bump_line-requires : goal.bump_line-requires
 bump_line-requires c =

@@ -18,18 +18,17 @@ high_ghost_coeffs-high_ghost-requires c =
     let a = c.args in
     knots-long a.count a.dims (omega (arith, c.well_formed)) c.requires.axis_lt_count.1 a.axis c.requires.axis_lt_count.0 a.grid.now c.requires.axis_lt_count.2 c.axis_knots-knots.ensures
 
-pub solve_checked-requires-clause-in_bounds : goal.solve_checked-requires-clause-in_bounds
-solve_checked-requires-clause-in_bounds c =
+pub solve_checked-requires : goal.solve_checked-requires
+solve_checked-requires c =
     let a = c.args in
-    let n = knots-are a.count a.dims (omega (arith, c.well_formed)) c.requires.axis_lt_count.1 a.axis c.requires.axis_lt_count.0 a.grid.now c.requires.axis_lt_count.2 c.axis_knots-knots.ensures in (knots-fit a.found (n ∙ sym (points-are a.count a.dims (omega (arith, c.well_formed)) c.requires.axis_lt_count.1 a.axis c.requires.axis_lt_count.0) ∙ sym c.requires.axis_lt_count.3) c.requires.line_fits).0
+    let n = knots-are a.count a.dims (omega (arith, c.well_formed)) c.requires.axis_lt_count.1 a.axis c.requires.axis_lt_count.0 a.grid.now c.requires.axis_lt_count.2 c.axis_knots-knots.ensures in
+    record {
+      in_bounds = (knots-fit a.found (n ∙ sym (points-are a.count a.dims (omega (arith, c.well_formed)) c.requires.axis_lt_count.1 a.axis c.requires.axis_lt_count.0) ∙ sym c.requires.axis_lt_count.3) c.requires.line_fits).0;
+      grid_len_bound = (knots-fit a.found (n ∙ sym (points-are a.count a.dims (omega (arith, c.well_formed)) c.requires.axis_lt_count.1 a.axis c.requires.axis_lt_count.0) ∙ sym c.requires.axis_lt_count.3) c.requires.line_fits).1;
+    }
 
-pub solve_checked-requires-clause-grid_len_bound : goal.solve_checked-requires-clause-grid_len_bound
-solve_checked-requires-clause-grid_len_bound c =
-    let a = c.args in
-    let n = knots-are a.count a.dims (omega (arith, c.well_formed)) c.requires.axis_lt_count.1 a.axis c.requires.axis_lt_count.0 a.grid.now c.requires.axis_lt_count.2 c.axis_knots-knots.ensures in (knots-fit a.found (n ∙ sym (points-are a.count a.dims (omega (arith, c.well_formed)) c.requires.axis_lt_count.1 a.axis c.requires.axis_lt_count.0) ∙ sym c.requires.axis_lt_count.3) c.requires.line_fits).1
-
-pub returns-clause-coeffs_after : goal.returns-clause-coeffs_after
-returns-clause-coeffs_after c =
+pub returns : goal.returns
+returns c =
     let a = c.args in
     let dims = take a.count a.dims in
     let n = knots-are a.count a.dims (omega (arith, c.well_formed)) c.requires.axis_lt_count.1 a.axis c.requires.axis_lt_count.0 a.grid.now c.requires.axis_lt_count.2 c.axis_knots-knots.ensures in
@@ -37,15 +36,7 @@ returns-clause-coeffs_after c =
     let eu = upper_is binary64 a.grid.now dims a.axis c.axis_knots-knots.ensures c.low_ghost_coeffs-low_ghost.ensures c.high_ghost_coeffs-high_ghost.ensures in
     let ev = solve-is binary64 a.grid.now dims a.axis c.axis_knots-knots.ensures c.low_ghost_coeffs-low_ghost.ensures c.high_ghost_coeffs-high_ghost.ensures in
     let y = line nan a.found.base a.found.stride a.coeffs.now in
-    knots-coefs a.found same eu ev y a.coeffs.now c.solve_checked.ensures.coeffs_after
-
-pub returns-clause-scratch_after : goal.returns-clause-scratch_after
-returns-clause-scratch_after c =
-    let a = c.args in
-    let dims = take a.count a.dims in
-    let n = knots-are a.count a.dims (omega (arith, c.well_formed)) c.requires.axis_lt_count.1 a.axis c.requires.axis_lt_count.0 a.grid.now c.requires.axis_lt_count.2 c.axis_knots-knots.ensures in
-    let same = n ∙ sym (points-are a.count a.dims (omega (arith, c.well_formed)) c.requires.axis_lt_count.1 a.axis c.requires.axis_lt_count.0) ∙ sym c.requires.axis_lt_count.3 in
-    let eu = upper_is binary64 a.grid.now dims a.axis c.axis_knots-knots.ensures c.low_ghost_coeffs-low_ghost.ensures c.high_ghost_coeffs-high_ghost.ensures in
-    let ev = solve-is binary64 a.grid.now dims a.axis c.axis_knots-knots.ensures c.low_ghost_coeffs-low_ghost.ensures c.high_ghost_coeffs-high_ghost.ensures in
-    let y = line nan a.found.base a.found.stride a.coeffs.now in
-    knots-scratch a.found same eu ev y a.scratch.now c.solve_checked.ensures.scratch_after
+    record {
+      coeffs_after = knots-coefs a.found same eu ev y a.coeffs.now c.solve_checked.ensures.coeffs_after;
+      scratch_after = knots-scratch a.found same eu ev y a.scratch.now c.solve_checked.ensures.scratch_after;
+    }

@@ -22,17 +22,14 @@ start-requires c =
     let p = begin-passed a.count a.dims [] [] tt tt (length a.vals.now) (length a.coeffs.now) (length a.ledger.now) (length a.scratch.now) (is-accepted c.in_default.is c.check_begin.ensures) in
     p.samples-size ∙ sym p.coefs-size
 
-pub run_list-requires-clause-lines_len : goal.run_list-requires-clause-lines_len
-run_list-requires-clause-lines_len c =
+pub run_list-requires : goal.run_list-requires
+run_list-requires c =
     let p = two-agree _ _ _ (is-accepted c.in_default-check_lists.is c.check_lists.ensures) in
     let a = c.args in
-    (p.0, p.1)
-
-pub run_list-requires-clause-scratch_value : goal.run_list-requires-clause-scratch_value
-run_list-requires-clause-scratch_value c =
-    let p = two-agree _ _ _ (is-accepted c.in_default-check_lists.is c.check_lists.ensures) in
-    let a = c.args in
-    begun-calls a.count a.dims [] [] tt tt _ _ _ (is-accepted c.in_default.is c.check_begin.ensures) c.start.ensures.0 c.start.ensures.1
+    record {
+      lines_len = (p.0, p.1);
+      scratch_value = begun-calls a.count a.dims [] [] tt tt _ _ _ (is-accepted c.in_default.is c.check_begin.ensures) c.start.ensures.0 c.start.ensures.1;
+    }
 
 pub returns : goal.returns
 returns c =

@@ -17,15 +17,14 @@ find_due-requires c =
     let p = call-ready a.count a.dims [] [] tt tt (length a.coeffs.now) (length a.ledger.now) (length a.scratch.now) (omega (arith, c.well_formed)) c.requires in
     (p.shape, p.ledger-size)
 
-pub solve_checked-requires-clause-le_n : goal.solve_checked-requires-clause-le_n
-solve_checked-requires-clause-le_n c =
+pub solve_checked-requires : goal.solve_checked-requires
+solve_checked-requires c =
     let a = c.args in
-    let p = line-due a.count a.dims [] [] tt tt (record { axis = a.axis; line = a.line; scratch = a.scratch.now }) (record { coefs = a.coeffs.now; ledger = a.ledger.now }) c.requires (omega (arith, c.well_formed)) c.in-At.is c.find_due.ensures in (p.fits).0
-
-pub solve_checked-requires-clause-n_le_m : goal.solve_checked-requires-clause-n_le_m
-solve_checked-requires-clause-n_le_m c =
-    let a = c.args in
-    let p = line-due a.count a.dims [] [] tt tt (record { axis = a.axis; line = a.line; scratch = a.scratch.now }) (record { coefs = a.coeffs.now; ledger = a.ledger.now }) c.requires (omega (arith, c.well_formed)) c.in-At.is c.find_due.ensures in (p.fits).1
+    let p = line-due a.count a.dims [] [] tt tt (record { axis = a.axis; line = a.line; scratch = a.scratch.now }) (record { coefs = a.coeffs.now; ledger = a.ledger.now }) c.requires (omega (arith, c.well_formed)) c.in-At.is c.find_due.ensures in
+    record {
+      le_n = (p.fits).0;
+      n_le_m = (p.fits).1;
+    }
 
 pub bump_line-requires : goal.bump_line-requires
 bump_line-requires c =
