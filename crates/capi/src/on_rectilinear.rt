@@ -9,12 +9,12 @@ ghost use Rattle.rectilinear.specs.Fit.{RectilinearFitted};
 ghost use Rattle.rectilinear_map.specs.Records.{map_of};
 ghost use Rattle.rectilinear_blocks.specs.Eval.{map_answer, grid_answer};
 ghost use Rattle.capi_parts.specs.Inputs.{lens_of, is_on};
-ghost use Rattle.capi_parts.specs.Outputs.{Wrote, Handed};
+ghost use Rattle.capi_parts.specs.Outputs.{Wrote};
 ghost use Rattle.capi_parts.specs.Splines.{with_slopes};
 ghost use Rattle.capi_parts.specs.Rectilinear.{rectilinear_map, rectilinear_spline};
 
 use capi_parts::{else_mismatch, number, put_gradient, put_value, rectilinear_map_of, shape_of};
-use rectilinear_map::{Built, MultiBsplineRectilinear};
+use rectilinear_map::MultiBsplineRectilinear;
 
 #[unsafe(no_mangle)]
 pub extern "C" fn corvezan_rectilinear_fit(
@@ -77,13 +77,10 @@ pub extern "C" fn corvezan_rectilinear_gradient(
     if slopes.len() != dims.len() {
         return else_mismatch(corvezan_rectilinear_check(dims, grid, coeffs.len()));
     }
-    let built = rectilinear_map_of(dims, grid, linear);
-    let answer = built.answer;
-    let map = built.map;
-    let refused = number(answer);
-    if refused != 0 {
-        return refused;
-    }
+    let map = match rectilinear_map_of(dims, grid, linear) {
+        Ok(map) => map,
+        Err(refusal) => return number(Err(refusal)),
+    };
     put_gradient(map.interp_one_grad(grid, coeffs, x), slopes)
 }
 
@@ -98,13 +95,10 @@ pub extern "C" fn corvezan_rectilinear_values(
 ) -> u32
     ensures { ValueBatch (rectilinear_spline binary64 dims.now grid.now (is_on linear) coeffs.now) x.now values.old result values.new }
 {
-    let built = rectilinear_map_of(dims, grid, linear);
-    let answer = built.answer;
-    let map = built.map;
-    let refused = number(answer);
-    if refused != 0 {
-        return refused;
-    }
+    let map = match rectilinear_map_of(dims, grid, linear) {
+        Ok(map) => map,
+        Err(refusal) => return number(Err(refusal)),
+    };
     number(map.interp(grid, coeffs, x, values))
 }
 
@@ -119,12 +113,9 @@ pub extern "C" fn corvezan_rectilinear_gradients(
 ) -> u32
     ensures { GradientBatch (rectilinear_spline binary64 dims.now grid.now (is_on linear) coeffs.now) x.now slopes.old result slopes.new }
 {
-    let built = rectilinear_map_of(dims, grid, linear);
-    let answer = built.answer;
-    let map = built.map;
-    let refused = number(answer);
-    if refused != 0 {
-        return refused;
-    }
+    let map = match rectilinear_map_of(dims, grid, linear) {
+        Ok(map) => map,
+        Err(refusal) => return number(Err(refusal)),
+    };
     number(map.interp_grad(grid, coeffs, x, slopes))
 }

@@ -17,7 +17,7 @@ use capi_parts::{
     check_grid, else_mismatch, four_from, number, put_gradient, put_value, regular_map_of, shape_of,
 };
 use regular_map::MultiBsplineRegular;
-use shape::{Answer, Refusal};
+use shape::Refusal;
 
 #[unsafe(no_mangle)]
 pub extern "C" fn corvezan_regular_fit(
@@ -63,11 +63,12 @@ pub extern "C" fn corvezan_regular_from_values(
     let shape = shape_of(dims);
     let starts = four_from(grid, 0);
     let steps = four_from(grid, dims.len());
-    let built = MultiBsplineRegular::from_values_with_workspace(
+    match MultiBsplineRegular::from_values_with_workspace(
         shape, starts, steps, vals, coeffs, scratch, false,
-    );
-    let answer = built.answer;
-    number(answer)
+    ) {
+        Ok(_) => 0,
+        Err(refusal) => number(Err(refusal)),
+    }
 }
 
 // A call that evaluates the map looks at the shape itself: only a grid of another length is left to refuse here, by the shape first.

@@ -21,16 +21,7 @@ pub extern "C" fn corvezan_rectilinear_begin(
         (state_of coeffs.new ledger.new) }
 {
     let shape = shape_of(dims);
-    let lens = shape.dims;
-    number(stepwise::begin_rectilinear_by_len(
-        shape.count,
-        lens,
-        grid,
-        vals,
-        coeffs,
-        ledger,
-        scratch_len,
-    ))
+    number(stepwise::begin_rectilinear_by_len(shape, grid, vals, coeffs, ledger, scratch_len))
 }
 
 #[unsafe(no_mangle)]

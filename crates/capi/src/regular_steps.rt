@@ -18,8 +18,7 @@ pub extern "C" fn corvezan_regular_begin(
     ensures { RegularBegun (length dims.now) (lens_of dims.now) vals.now (state_of coeffs.old ledger.old) scratch_len result (state_of coeffs.new ledger.new) }
 {
     let shape = shape_of(dims);
-    let lens = shape.dims;
-    number(stepwise::begin_regular_by_len(shape.count, lens, vals, coeffs, ledger, scratch_len))
+    number(stepwise::begin_regular_by_len(shape, vals, coeffs, ledger, scratch_len))
 }
 
 #[unsafe(no_mangle)]

@@ -7,7 +7,6 @@ ghost use Rattle.capi_parts.specs.Inputs.{lens_of};
 ghost use Rattle.capi_parts.specs.Outputs.{Wrote};
 
 use capi_parts::{number, shape_of};
-use shape::{Answer, FirstCell};
 
 #[unsafe(no_mangle)]
 pub extern "C" fn corvezan_check_shape(dims: &[usize]) -> u32
@@ -60,10 +59,10 @@ pub extern "C" fn corvezan_first_cell(
 {
     let shape = shape_of(dims);
     match shape.first_cell(axis, line) {
-        FirstCell::At(at) => {
+        Ok(at) => {
             *cell = at;
             0
         }
-        FirstCell::Refused(refusal) => number(Answer::Refused(refusal)),
+        Err(refusal) => number(Err(refusal)),
     }
 }

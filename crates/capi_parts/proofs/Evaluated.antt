@@ -1,5 +1,7 @@
 -- A call that the library answers: from what it says of its map to what the C function says of the map that C hands over.
 -- Assumes nothing.
+use Rattle.std.specs.Prelude.{Result}
+use Rattle.shape.specs.declared.answers.Refusal.{Refusal}
 use mathlib.Core.Path.{◌≡◌, refl, sym, ap, subst, ◌∙◌}
 use mathlib.Core.Bool.{Bool, true, false, cond}
 use mathlib.Core.List.{List, [], ◌∷◌, ◌++◌}
@@ -21,11 +23,11 @@ use Rattle.multibspline.specs.Numbers.{f0}
 use Rattle.regular_blocks.specs.Map.{RegularMap}
 use Rattle.regular_blocks.specs.Checks.{any_step_bad, map_answer, from_values_answer, regular}
 use Rattle.rectilinear_blocks.specs.Map.{RectilinearMap}
-use Rattle.rectilinear_map.specs.Map.{made, blank}
+use Rattle.rectilinear_map.specs.Map.{made}
 use Rattle.knots.specs.Checks.{grid_check}
 use Rattle.rectilinear_blocks.specs.Eval.{grid_answer, map_checks, rectilinear}
 use Rattle.capi_parts.specs.Inputs.{lens_of, shape_of, four_from}
-use Rattle.capi_parts.specs.Outputs.{Wrote, Handed}
+use Rattle.capi_parts.specs.Outputs.{Wrote}
 use Rattle.capi_parts.specs.Splines.{with_slopes}
 use Rattle.capi_parts.specs.Regular.{steps_of, regular_map, grid_ready_checks, regular_checks, regular_spline, fit_checks}
 use Rattle.capi_parts.specs.Rectilinear.{rectilinear_map, rectilinear_spline}
@@ -149,13 +151,9 @@ pub made-handed : (f : Format) (dims : List ℕ) (grid : List Float) (linear : B
 unfolding made
 made-handed f dims grid linear = rw (lens-used dims)
 
-pub handed : (f : Format) (dims : List ℕ) (grid : List Float) (linear : Bool) → {answer : ℕ} {map : RectilinearMap}
-    → BuiltFrom (grid_answer (length dims) (lens_of dims) grid) (made f (length dims) (lens_of dims) grid linear) blank answer map
-    → Handed (grid_answer (length dims) (lens_of dims) grid) (rectilinear_map f dims grid linear) answer map
-handed f dims grid linear w = record {
-  answers = w.answers;
-  map = λ z. let ok = sym w.answers ∙ z in w.map ∙ rw ok (made-handed f dims grid linear);
-}
+pub handed : (f : Format) (dims : List ℕ) (grid : List Float) (linear : Bool) → {R : Type 0} {map_of : R → RectilinearMap} {answer : ℕ} {built : Result R Refusal}
+    → BuiltFrom map_of answer (made f (length dims) (lens_of dims) grid linear) built → BuiltFrom map_of answer (rectilinear_map f dims grid linear) built
+handed f dims grid linear w = rw (made-handed f dims grid linear) at w
 
 module _ (dims : List ℕ) (grid : List Float) {n : ℕ} (told : n ≡ grid_answer (length dims) (lens_of dims) grid) where
   pub rectilinear-refused : (coefs : ℕ) → (n ≡ 0 → ⊥) → n ≡ first_refusal (map_checks (length dims) (lens_of dims) grid coefs)

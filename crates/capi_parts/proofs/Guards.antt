@@ -1,6 +1,7 @@
 -- A call that is refused before the library is asked, and one check more in a list of checks. Assumes nothing.
 --     n        what the call has answered so far
-use mathlib.Core.Path.{◌≡◌, refl, sym, ap, subst, ◌∙◌}
+use Rattle.std.specs.Prelude.{Result, Ok, Err}
+use mathlib.Core.Path.{◌≡◌, refl, sym, ap, ◌∙◌}
 use mathlib.Core.Bool.{Bool, true, false, cond}
 use mathlib.Core.List.{List, [], ◌∷◌, ◌++◌}
 use Prim.Native.Nat.{ℕ, zero, suc, ◌*◌}
@@ -11,19 +12,14 @@ use lib.Ieee.{Float}
 use borrow.Author.Tests.{eq-eqb, ne_eqb}
 use Rattle.shape.specs.Shape.{first}
 use Rattle.shape.specs.Checks.{Check, first_refusal, shape_checks, length_check, Positive}
-use Rattle.shape.specs.Sizes.{first_cell_answer, first_cell_number, first_cell_value, FirstCellFound}
-use Rattle.shape.specs.Refusal.{refusal_number}
+use Rattle.shape.specs.Sizes.{first_cell_answer, FirstCellFound}
+use Rattle.shape.specs.Refusal.{refusal_number, answer_number, answer_or}
 use Rattle.shape.specs.declared.answers.Refusal.{Refusal}
-use Rattle.shape.specs.declared.answers.FirstCell.{FirstCell}
-use Rattle.shape.specs.declared.answers.FirstCell.TheVariants as FirstCells
 use Rattle.shape.specs.Fit.{FitLeaves}
 use Rattle.shape.proofs.Accepted.{refused-append, refusal-append, passed-append, accepted-append}
 use Rattle.shape.proofs.Checks.{length-fails, length-passes}
 use Rattle.ledger.proofs.Stages.{refusal-some, none-refuse}
-use Rattle.evaluation.specs.declared.answers.Valued.{Valued}
-use Rattle.evaluation.specs.declared.answers.Valued.TheVariants as Values
 use Rattle.evaluation.specs.Spline.{Spline, one_answer, batch_answer, gradient_batch_answer}
-use Rattle.evaluation.specs.Records.{valued_number, valued_value}
 use Rattle.evaluation.specs.Batch.{Batch, ValueBatch, GradientBatch}
 use Rattle.capi_parts.specs.Inputs.{lens_of}
 use Rattle.capi_parts.specs.Outputs.{Wrote}
@@ -69,22 +65,23 @@ module _ {n : ℕ} (h : n ≡ 0 → ⊥) where
 
 -- ---- a cell, or a value, put where it is asked for
 
-module _ {count : ℕ} {lens : List ℕ} {a l : ℕ} {r : FirstCell} {old : ℕ} where
-  pub cell-put : {cell : ℕ} → r ≡ FirstCells.At cell → FirstCellFound count lens a l r → Wrote (first_cell_answer count lens a l) (first (take count lens) a l) old 0 cell
+module _ {count : ℕ} {lens : List ℕ} {a l : ℕ} {r : Result ℕ Refusal} {old : ℕ} where
+  pub cell-put : {cell : ℕ} → r ≡ Ok cell → FirstCellFound count lens a l r → Wrote (first_cell_answer count lens a l) (first (take count lens) a l) old 0 cell
   cell-put told w =
-      let z : first_cell_answer count lens a l ≡ 0 = sym w.answers ∙ ap first_cell_number told in
+      let z : first_cell_answer count lens a l ≡ 0 = sym w.answers ∙ ap answer_number told in
       let b : eqb (first_cell_answer count lens a l) 0 ≡ true = eq-eqb _ 0 z in
-      record { answers = sym z; leaves = rw b (rw b at (sym (ap first_cell_value told) ∙ w.cell)) }
+      record { answers = sym z; leaves = rw b (rw b at (sym (ap (answer_or 0) told) ∙ w.cell)) }
 
-  pub cell-refused : {refusal : Refusal} {n : ℕ} → r ≡ FirstCells.Refused refusal → FirstCellFound count lens a l r → n ≡ refusal_number refusal → Wrote (first_cell_answer count lens a l) (first (take count lens) a l) old n old
-  cell-refused {refusal} told w e = wrote_nothing (λ z. refusal-some refusal (sym e ∙ z)) (e ∙ sym (ap first_cell_number told) ∙ w.answers)
+  pub cell-refused : {refusal : Refusal} {n : ℕ} → r ≡ Err refusal → FirstCellFound count lens a l r → n ≡ refusal_number refusal → Wrote (first_cell_answer count lens a l) (first (take count lens) a l) old n old
+  cell-refused {refusal} told w e = wrote_nothing (λ z. refusal-some refusal (sym e ∙ z)) (e ∙ sym (ap answer_number told) ∙ w.answers)
 
-module _ {v : Valued} {old : Float} where
-  pub put-accepted : {x : Float} → v ≡ Values.Value x → Wrote (valued_number v) (valued_value v) old 0 x
-  put-accepted {x} told = subst (λ (v : Valued). Wrote (valued_number v) (valued_value v) old 0 x) (sym told) (record { answers = refl; leaves = refl })
+-- the number of a refusal is not 0
+pub refusal-not : (r : Refusal) {n : ℕ} → n ≡ refusal_number r → n ≡ 0 → ⊥
+refusal-not r e z = refusal-some r (sym e ∙ z)
 
-  pub put_refused : {refusal : Refusal} {n : ℕ} → v ≡ Values.Refused refusal → n ≡ refusal_number refusal → Wrote (valued_number v) (valued_value v) old n old
-  put_refused {refusal} told e = wrote_nothing (λ z. refusal-some refusal (sym e ∙ z)) (e ∙ sym (ap valued_number told))
+-- and what it writes: nothing
+pub put_refused : {A : Type 0} {value old : A} (refusal : Refusal) {n : ℕ} → n ≡ refusal_number refusal → Wrote (refusal_number refusal) value old n old
+put_refused refusal e = wrote_nothing (refusal-not refusal e) e
 
 -- ---- the shape, then the length of a regular grid
 

@@ -5,8 +5,3 @@ use Rattle.std.specs.Prelude.{◌≡◌, cond, ℕ, eqb}
 pub record Wrote {A : Type 0} (expected : ℕ) (value before : A) (answer : ℕ) (after : A) : Type 0 where
   pub answers : answer ≡ expected
   pub leaves : after ≡ cond (eqb expected 0) value before
-
--- a map is handed out where its checks pass
-pub record Handed {M : Type 0} (expected : ℕ) (made : M) (answer : ℕ) (handed : M) : Type 0 where
-  pub answers : answer ≡ expected
-  pub map : answer ≡ 0 → handed ≡ made

@@ -8,27 +8,25 @@ ghost use Rattle.regular_map.specs.Records as Regular;
 ghost use Rattle.rectilinear_map.specs.Records.{map_of};
 ghost use Rattle.rectilinear_blocks.specs.Eval.{grid_answer};
 ghost use Rattle.capi_parts.specs.Inputs.{lens_of, is_on};
-ghost use Rattle.capi_parts.specs.Outputs.{Handed};
+ghost use Rattle.evaluation.specs.Built.{BuiltFrom};
 ghost use Rattle.capi_parts.specs.Regular.{grid_ready_checks, regular_map};
 ghost use Rattle.capi_parts.specs.Rectilinear.{rectilinear_map};
 
 use crate::inputs::{four_from, shape_of};
-use rectilinear_map::{Built, MultiBsplineRectilinear};
+use rectilinear_map::MultiBsplineRectilinear;
 use regular_map::MultiBsplineRegular;
-use shape::{Answer, Refusal};
+use shape::Refusal;
 
 // The shape, then the length of a regular grid.
-pub fn check_grid(dims: &[usize], grid: &[f64]) -> Answer
+pub fn check_grid(dims: &[usize], grid: &[f64]) -> Result<(), Refusal>
     ensures { answer_number result ≡ first_refusal (grid_ready_checks dims.now grid.now) }
 {
     let shape = shape_of(dims);
-    if let Answer::Refused(refusal) = shape.check() {
-        return Answer::Refused(refusal);
-    }
+    shape.check()?;
     if grid.len() != 2 * dims.len() {
-        return Answer::Refused(Refusal::DimensionMismatch);
+        return Err(Refusal::DimensionMismatch);
     }
-    Answer::Accepted
+    Ok(())
 }
 
 // The regular map.
@@ -49,10 +47,13 @@ pub fn regular_map_of(dims: &[usize], grid: &[f64], linear: u32) -> MultiBspline
 }
 
 // The rectilinear map, once the shape and the length of the grid are found right. Its knots are looked at by the call that asks it.
-pub fn rectilinear_map_of(dims: &[usize], grid: &[f64], linear: u32) -> Built
-    ensures { Handed (grid_answer (length dims.now) (lens_of dims.now) grid.now)
-        (rectilinear_map binary64 dims.now grid.now (is_on linear)) (answer_number result.answer)
-        (map_of result.map) }
+pub fn rectilinear_map_of(
+    dims: &[usize],
+    grid: &[f64],
+    linear: u32,
+) -> Result<MultiBsplineRectilinear, Refusal>
+    ensures { BuiltFrom map_of (grid_answer (length dims.now) (lens_of dims.now) grid.now)
+        (rectilinear_map binary64 dims.now grid.now (is_on linear)) result }
 {
     let shape = shape_of(dims);
     MultiBsplineRectilinear::of_grid(shape, grid, linear != 0)

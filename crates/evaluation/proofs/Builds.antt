@@ -1,32 +1,15 @@
 -- What a function that builds a map hands out, outcome by outcome. Assumes nothing.
-use mathlib.Core.Path.{◌≡◌, sym, ap, ◌∙◌}
-use mathlib.Core.Bool.{false}
-use Prim.Native.Nat.{ℕ}
-use native.Mathlib.Omega.{arith}
-use lib.Dec.{eqb}
-use borrow.Author.Tests.{ne_eqb}
-use Rattle.shape.specs.Refusal.{refusal_number, answer_number}
+use Rattle.std.proofs.Common.{◌≡◌, ℕ, Result, Ok, Err}
+use Rattle.shape.specs.Refusal.{refusal_number}
 use Rattle.shape.specs.declared.answers.Refusal.{Refusal}
-use Rattle.shape.specs.declared.answers.Answer.{Answer}
-use Rattle.shape.specs.declared.answers.Answer.TheVariants.{Accepted, Refused}
-use Rattle.shape.proofs.Accepted.{refusal-suc}
 use Rattle.evaluation.specs.Built.{BuiltFrom}
 
-module _ {M : Type 0} {expected : ℕ} {made blank handed : M} where
-  pub refused-with : (r : Refusal) {answer : ℕ} → refusal_number r ≡ expected → answer ≡ refusal_number r → handed ≡ blank → BuiltFrom expected made blank answer handed
-  refused-with r e ea em =
-      let some : eqb expected 0 ≡ false = ne_eqb expected 0 (λ z. omega (arith, refusal-suc r, e)) in
-      record { answers = ea ∙ e; map = rw some em }
+module _ {R M : Type 0} {map_of : R → M} {expected : ℕ} {made : M} where
+  pub built-refused : (r : Refusal) → refusal_number r ≡ expected → BuiltFrom map_of expected made (Err r)
+  built-refused r e = record { answers = e; handed = tt }
 
-  pub built-at : {other answer : ℕ} → expected ≡ other → BuiltFrom other made blank answer handed → BuiltFrom expected made blank answer handed
+  pub built-accepted : {map : R} → ◌≡◌ {A = ℕ} 0 expected → map_of map ≡ made → BuiltFrom map_of expected made (Ok map)
+  built-accepted e em = record { answers = e; handed = em }
+
+  pub built-at : {other : ℕ} {built : Result R Refusal} → expected ≡ other → BuiltFrom map_of other made built → BuiltFrom map_of expected made built
   built-at e w = rw e w
-
-  -- by the answer of the checks
-  module _ {x : Answer} (checked : answer_number x ≡ expected) where
-    pub built-refused : {r : Refusal} {answer : ℕ} → x ≡ Refused r → answer ≡ refusal_number r → handed ≡ blank → BuiltFrom expected made blank answer handed
-    built-refused {r} told ea em = refused-with r (sym (ap answer_number told) ∙ checked) ea em
-
-    pub built-accepted : {answer : ℕ} → x ≡ Accepted → answer ≡ 0 → handed ≡ made → BuiltFrom expected made blank answer handed
-    built-accepted told ea em =
-        let e : expected ≡ 0 = sym checked ∙ ap answer_number told in
-        record { answers = ea ∙ sym e; map = rw e em }

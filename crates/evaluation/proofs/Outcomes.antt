@@ -12,11 +12,9 @@ use borrow.Author.Tests.{eq-eqb, ne_eqb}
 use Rattle.shape.specs.Cells.{put}
 use Rattle.shape.proofs.Cells.{put-ext}
 use Rattle.shape.specs.Checks.{Check, refuse, first_refusal, length_check, Positive}
-use Rattle.shape.specs.Refusal.{refusal_number, answer_number}
+use Rattle.shape.specs.Refusal.{refusal_number}
 use Rattle.shape.specs.declared.answers.Refusal.{Refusal}
 use Rattle.shape.specs.declared.answers.Refusal.TheVariants as Refusals
-use Rattle.shape.specs.declared.answers.Answer.{Answer}
-use Rattle.shape.specs.declared.answers.Answer.TheVariants.{Accepted, Refused}
 use Rattle.shape.proofs.Accepted.{refusal-suc, refusal-append, passed-append}
 use Rattle.multibspline.specs.Numbers.{f0}
 use Rattle.evaluation.specs.Axes.{zeros, query}
@@ -85,14 +83,14 @@ module _ (s : Spline) (xs : List Float) (n start m r : ℕ) (out : List Float) {
 
 -- ---- the checks of a map, and what follows them
 
-module _ (checks : List Check) {y : Answer} (e : answer_number y ≡ first_refusal checks) (ys : List Check) where
+module _ (checks ys : List Check) where
   -- a map that they refuse is refused whatever follows
-  refused-first : {r : Refusal} → y ≡ Refused r → refusal_number r ≡ first_refusal (checks ++ ys)
-  refused-first {r} told = refusal-append r checks ys (sym (ap answer_number told) ∙ e)
+  refused-first : (r : Refusal) → refusal_number r ≡ first_refusal checks → refusal_number r ≡ first_refusal (checks ++ ys)
+  refused-first r e = refusal-append r checks ys e
 
   -- one that they accept leaves the answer to what follows
-  passed_first : Positive checks → y ≡ Accepted → first_refusal (checks ++ ys) ≡ first_refusal ys
-  passed_first pos told = passed-append checks ys pos (sym e ∙ ap answer_number told)
+  passed_first : Positive checks → ◌≡◌ {A = ℕ} 0 (first_refusal checks) → first_refusal (checks ++ ys) ≡ first_refusal ys
+  passed_first pos e = passed-append checks ys pos (sym e)
 
 -- ---- a single query
 
@@ -108,23 +106,21 @@ module _ (s : Spline) (x : List Float) where
   pub one-refused : (r : Refusal) → refusal_number r ≡ one_answer s x → OneValue s x (refusal_number r) f0
   one-refused r e = let b : eqb (refusal_number r) 0 ≡ false = rw e (refused-is r e) in record { answers = e; valued = rw b }
 
-  pub one-gradient-refused : (r : Refusal) {answer : ℕ} {ps : List Float} → refusal_number r ≡ one_answer s x → answer ≡ refusal_number r → ps ≡ zeros → OneGradient s x answer ps
-  one-gradient-refused r {answer} e ea ep =
-      let b : eqb answer 0 ≡ false = rw (ea, e) (refused-is r e) in
-      record { answers = ea ∙ e; gradient = rw b ep }
+  pub one-gradient-refused : (r : Refusal) → refusal_number r ≡ one_answer s x → OneGradient s x (refusal_number r) zeros
+  one-gradient-refused r e = let b : eqb (refusal_number r) 0 ≡ false = rw e (refused-is r e) in record { answers = e; gradient = rw b }
 
   -- what follows the checks of the map
   last : List Check
   last = length_check s.axes (length x) ++ refuse 6 (s.refuses (query s.axes x 1 0)) ∷ []
 
-  pub one-checks : {y : Answer} {r : Refusal} → y ≡ Refused r → answer_number y ≡ first_refusal s.checks → refusal_number r ≡ one_answer s x
+  pub one-checks : (r : Refusal) → refusal_number r ≡ first_refusal s.checks → refusal_number r ≡ one_answer s x
   unfolding one_answer last
-  one-checks told e = refused-first s.checks e last told
+  one-checks r e = refused-first s.checks last r e
 
-  module _ (pos : Positive s.checks) {y : Answer} (told : y ≡ Accepted) (e : answer_number y ≡ first_refusal s.checks) where
+  module _ (pos : Positive s.checks) (e : ◌≡◌ {A = ℕ} 0 (first_refusal s.checks)) where
     one-passed : one_answer s x ≡ first_refusal last
     unfolding one_answer last
-    one-passed = passed_first s.checks e last pos told
+    one-passed = passed_first s.checks last pos e
 
     pub one-length : (length x ≡ s.axes → ⊥) → refusal_number Refusals.DimensionMismatch ≡ one_answer s x
     unfolding first_refusal last
@@ -144,22 +140,22 @@ module _ (s : Spline) (x : List Float) where
 -- ---- batches: the answer of the checks before the entries
 
 module _ (s : Spline) (xs out : ℕ) where
-  pub batch-checks : {y : Answer} {r : Refusal} → y ≡ Refused r → answer_number y ≡ first_refusal s.checks → refusal_number r ≡ batch_answer s xs out
+  pub batch-checks : (r : Refusal) → refusal_number r ≡ first_refusal s.checks → refusal_number r ≡ batch_answer s xs out
   unfolding batch_answer
-  batch-checks told e = refused-first s.checks e (length_check (s.axes * out) xs) told
+  batch-checks r e = refused-first s.checks (length_check (s.axes * out) xs) r e
 
   -- what follows the checks of the map, of a gradient batch
   ends : List Check
   ends = refuse 2 (not (eqb (out % s.axes) 0)) ∷ length_check out xs
 
-  pub gradient-checks : {y : Answer} {r : Refusal} → y ≡ Refused r → answer_number y ≡ first_refusal s.checks → refusal_number r ≡ gradient_batch_answer s xs out
+  pub gradient-checks : (r : Refusal) → refusal_number r ≡ first_refusal s.checks → refusal_number r ≡ gradient_batch_answer s xs out
   unfolding gradient_batch_answer ends
-  gradient-checks told e = refused-first s.checks e ends told
+  gradient-checks r e = refused-first s.checks ends r e
 
-  module _ (pos : Positive s.checks) {y : Answer} (told : y ≡ Accepted) (e : answer_number y ≡ first_refusal s.checks) where
+  module _ (pos : Positive s.checks) (e : ◌≡◌ {A = ℕ} 0 (first_refusal s.checks)) where
     batch-first : batch_answer s xs out ≡ first_refusal (length_check (s.axes * out) xs)
     unfolding batch_answer
-    batch-first = passed_first s.checks e (length_check (s.axes * out) xs) pos told
+    batch-first = passed_first s.checks (length_check (s.axes * out) xs) pos e
 
     pub batch-length : (xs ≡ s.axes * out → ⊥) → refusal_number Refusals.DimensionMismatch ≡ batch_answer s xs out
     unfolding first_refusal
@@ -171,7 +167,7 @@ module _ (s : Spline) (xs out : ℕ) where
 
     gradient-first : gradient_batch_answer s xs out ≡ first_refusal ends
     unfolding gradient_batch_answer ends
-    gradient-first = passed_first s.checks e ends pos told
+    gradient-first = passed_first s.checks ends pos e
 
     pub gradient-whole : (out % s.axes ≡ 0 → ⊥) → refusal_number Refusals.DimensionMismatch ≡ gradient_batch_answer s xs out
     unfolding first_refusal ends

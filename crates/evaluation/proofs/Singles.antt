@@ -36,6 +36,6 @@ module _ (s : Spline) (x : List Float) {out out' : List Float} {r : ℕ} where
       let e : r ≡ 1 = omega (arith, b.most) in
       gradient-found s _ (b.good 0 all) (rw (e, blank) at b.leaves ∙ single-parts s.axes (s.part (query s.axes x 1 0)) few)
 
-  pub single-gradient-refused : {answer : ℕ} {ps : List Float} → Block (bad_at s x 1) (gradient_step s x 1) 0 1 out r out' → r < 1 → answer ≡ 6 → ps ≡ zeros → GradientAnswered s (query s.axes x 1 0) answer ps
+  pub single-gradient-refused : Block (bad_at s x 1) (gradient_step s x 1) 0 1 out r out' → r < 1 → GradientAnswered s (query s.axes x 1 0) 6 zeros
   unfolding bad_at
-  single-gradient-refused b none ea ep = let e : r ≡ 0 = omega arith in gradient-refused s _ (rw e at (b.stops none)) ea ep
+  single-gradient-refused b none = let e : r ≡ 0 = omega arith in gradient-refused s _ (rw e at (b.stops none)) refl refl

@@ -2,7 +2,7 @@
 -- each other; a caller has no use for it. Assumes nothing.
 use Rattle.std.specs.Prelude.{◌≡◌, Bool, cond, List, ℕ, Float, ltb}
 use Rattle.multibspline.specs.Numbers.{f0}
-use Rattle.evaluation.specs.Axes.{zeros, parts}
+use Rattle.evaluation.specs.Axes.{zeros}
 use Rattle.evaluation.specs.Spline.{Spline, gradient}
 use Rattle.evaluation.specs.Batch.{before, written, bad_at, value_step, gradient_step}
 

@@ -8,6 +8,5 @@ pub mod Place
 pub mod Block
 pub mod Stages
 pub mod OneQuery
-pub mod Records
 pub mod Granted
 pub mod Entries

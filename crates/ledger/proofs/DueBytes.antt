@@ -1,4 +1,5 @@
 -- A line by the numbers that the code works out: whether it is due, and 1 more in its bytes. Assumes nothing.
+use Rattle.std.specs.Prelude.{Option, Some, None}
 use mathlib.Core.Path.{◌≡◌, refl, sym, ap, ◌∙◌}
 use mathlib.Core.Bool.{false}
 use mathlib.Core.List.{List, [], ◌∷◌}
@@ -10,9 +11,7 @@ use Rattle.shape.specs.Shape.{points, stride, lines, first, is_line}
 use Rattle.shape.specs.Cells.{on_line, line, write_line}
 use Rattle.shape.specs.Checks.{refuse, first_refusal}
 use Rattle.shape.specs.Line.{LineIs, LineLooked}
-use Rattle.shape.specs.declared.inner.Line.{Line}
-use Rattle.shape.specs.declared.inner.LineFound.{LineFound}
-use Rattle.shape.specs.declared.inner.LineFound.TheVariants.{At, NoSuchLine}
+use Rattle.shape.specs.declared.line.Line.{Line}
 use Rattle.shape.proofs.Checks.{check-fails, check-passes}
 use Rattle.shape.proofs.Cells.{length-put, put_next, put-ext}
 use Rattle.shape.specs.Below.{any_below}
@@ -22,10 +21,10 @@ use Rattle.ledger.specs.Bytes.{EachByte, each}
 
 module _ (dims : List ℕ) (a l : ℕ) (ledger : List ℕ) where
   -- from what the search for the line finds: there is none, or it has these numbers
-  pub due-none : {x : LineFound} → x ≡ NoSuchLine → LineLooked dims a l x → ◌≡◌ {A = ℕ} 7 (first_refusal (due_checks dims a l ledger))
+  pub due-none : {x : Option Line} → x ≡ None → LineLooked dims a l x → ◌≡◌ {A = ℕ} 7 (first_refusal (due_checks dims a l ledger))
   due-none told w = let e : is_line dims a l ≡ false = rw told at w in check-fails _ 7 _ (rw e)
 
-  pub found-is : {x : LineFound} {found : Line} → x ≡ At found → LineLooked dims a l x → LineIs dims a l found
+  pub found-is : {x : Option Line} {found : Line} → x ≡ Some found → LineLooked dims a l x → LineIs dims a l found
   found-is told w = rw told at w
 
   module _ {found : Line} (w : LineIs dims a l found) where

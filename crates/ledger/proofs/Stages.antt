@@ -1,4 +1,5 @@
 -- The checks of begin and of the line call, kind after kind, from what the code is answered for each kind. Assumes nothing.
+use Rattle.std.specs.Prelude.{Result, Ok, Err}
 use mathlib.Core.Path.{◌≡◌, refl, sym, ap, ◌∙◌}
 use mathlib.Core.Bool.{false}
 use mathlib.Core.List.{List, [], ◌++◌, append_assoc}
@@ -13,8 +14,6 @@ use Rattle.shape.specs.Usable.{Usable}
 use Rattle.shape.specs.Refusal.{refusal_number, answer_number}
 use Rattle.shape.specs.declared.answers.Refusal.{Refusal}
 use Rattle.shape.specs.declared.answers.Refusal.TheVariants.{AxisCount, DimensionMismatch, TooManyPoints, ScratchTooSmall, NotIncreasing, Unrepresentable, NoSuchLine, AlreadySolved, NotDue}
-use Rattle.shape.specs.declared.answers.Answer.{Answer}
-use Rattle.shape.specs.declared.answers.Answer.TheVariants.{Accepted, Refused}
 use Rattle.shape.proofs.Checks.{length-fails, length-passes, length-passed, scratch-fails, scratch-passes, scratch-passed}
 use Rattle.shape.proofs.Accepted.{refusal-suc, refusal-append, prefix-passed, passed-append, both-passed, positive-append, accepted-append, usable}
 use Rattle.book.specs.LineCall.{Call, State, due_checks, begin_checks, begin_answer, call_checks, call_answer}
@@ -23,26 +22,20 @@ use Rattle.ledger.specs.Ready.{ready_checks, call_ready_checks}
 
 -- ---- what an answer says
 
-pub is-accepted : {x : Answer} {n : ℕ} → x ≡ Accepted → answer_number x ≡ n → n ≡ 0
-is-accepted told e = sym e ∙ ap answer_number told
-
-pub is-refused : {x : Answer} {r : Refusal} {n : ℕ} → x ≡ Refused r → answer_number x ≡ n → refusal_number r ≡ n
-is-refused told e = sym (ap answer_number told) ∙ e
-
 pub refusal-some : (r : Refusal) → refusal_number r ≡ 0 → ⊥
 refusal-some r z = omega (arith, refusal-suc r, z)
 
-pub answer-small : (x : Answer) → answer_number x < 256
-answer-small Accepted = omega arith
-answer-small (Refused AxisCount) = omega arith
-answer-small (Refused DimensionMismatch) = omega arith
-answer-small (Refused TooManyPoints) = omega arith
-answer-small (Refused ScratchTooSmall) = omega arith
-answer-small (Refused NotIncreasing) = omega arith
-answer-small (Refused Unrepresentable) = omega arith
-answer-small (Refused NoSuchLine) = omega arith
-answer-small (Refused AlreadySolved) = omega arith
-answer-small (Refused NotDue) = omega arith
+pub answer-small : {A : Type 0} (x : Result A Refusal) → answer_number x < 256
+answer-small (Ok found) = omega arith
+answer-small (Err AxisCount) = omega arith
+answer-small (Err DimensionMismatch) = omega arith
+answer-small (Err TooManyPoints) = omega arith
+answer-small (Err ScratchTooSmall) = omega arith
+answer-small (Err NotIncreasing) = omega arith
+answer-small (Err Unrepresentable) = omega arith
+answer-small (Err NoSuchLine) = omega arith
+answer-small (Err AlreadySolved) = omega arith
+answer-small (Err NotDue) = omega arith
 
 pub refusal-not-0 : (r : Refusal) → eqb (refusal_number r) 0 ≡ false
 refusal-not-0 r = ne_eqb (refusal_number r) 0 (refusal-some r)
@@ -98,24 +91,24 @@ module _ (count : ℕ) (lens : List ℕ) (grid knots : List Check) (coefs ledger
   abbrev held : List Check
   held = length_check (size (take count lens)) coefs ++ length_check (size (take count lens)) ledger
 
-  pub at-shape : {x : Answer} {r : Refusal} → x ≡ Refused r → answer_number x ≡ first_refusal (shape_checks count lens) → Answered (refusal_number r)
+  pub at-shape : (r : Refusal) → refusal_number r ≡ first_refusal (shape_checks count lens) → Answered (refusal_number r)
   unfolding ready_checks
-  at-shape {r = r} told e = refusal-append r (shape_checks count lens) _ (is-refused told e)
+  at-shape r e = refusal-append r (shape_checks count lens) _ e
 
   module _ (ok : first_refusal (shape_checks count lens) ≡ 0) where
     after-shape : first_refusal (ready_checks count lens grid knots coefs ledger) ≡ first_refusal (grid ++ (held ++ knots))
     unfolding ready_checks
     after-shape = accepted-append count lens ok _
 
-    pub at-grid : {x : Answer} {r : Refusal} → x ≡ Refused r → answer_number x ≡ first_refusal grid → Answered (refusal_number r)
-    at-grid {r = r} told e = refusal-append r grid _ (is-refused told e) ∙ sym after-shape
+    pub at-grid : (r : Refusal) → refusal_number r ≡ first_refusal grid → Answered (refusal_number r)
+    at-grid r e = refusal-append r grid _ e ∙ sym after-shape
 
     module _ (pg : Positive grid) (grid-ok : first_refusal grid ≡ 0) where
       after-grid : first_refusal (ready_checks count lens grid knots coefs ledger) ≡ first_refusal (held ++ knots)
       after-grid = after-shape ∙ passed-append grid _ pg grid-ok
 
-      pub at_held : {x : Answer} {r : Refusal} → x ≡ Refused r → answer_number x ≡ first_refusal held → Answered (refusal_number r)
-      at_held {r = r} told e = refusal-append r held _ (is-refused told e) ∙ sym after-grid
+      pub at_held : (r : Refusal) → refusal_number r ≡ first_refusal held → Answered (refusal_number r)
+      at_held r e = refusal-append r held _ e ∙ sym after-grid
 
       pub at-knots : first_refusal held ≡ 0 → {n : ℕ} → n ≡ first_refusal knots → Answered n
       at-knots held-ok e = e ∙ sym (after-grid ∙ passed-append held knots (omega arith, (omega arith, tt)) held-ok)
@@ -141,13 +134,12 @@ module _ (count : ℕ) (lens : List ℕ) (grid knots : List Check) (coefs ledger
 
     -- ---- and what comes last: samples and scratch, or scratch
 
-    module _ (last : List Check) {answer : ℕ} (is : answer ≡ first_refusal (ready_checks count lens grid knots coefs ledger ++ last)) {x : Answer}
-        (e : answer_number x ≡ first_refusal (ready_checks count lens grid knots coefs ledger)) where
-      pub not-ready : {r : Refusal} → x ≡ Refused r → refusal_number r ≡ answer
-      not-ready {r} told = refusal-append r (ready_checks count lens grid knots coefs ledger) last (is-refused told e) ∙ sym is
+    module _ (last : List Check) {answer : ℕ} (is : answer ≡ first_refusal (ready_checks count lens grid knots coefs ledger ++ last)) where
+      pub not-ready : (r : Refusal) → refusal_number r ≡ first_refusal (ready_checks count lens grid knots coefs ledger) → refusal_number r ≡ answer
+      not-ready r e = refusal-append r (ready_checks count lens grid knots coefs ledger) last e ∙ sym is
 
-      pub then-last : x ≡ Accepted → {n : ℕ} → n ≡ first_refusal last → n ≡ answer
-      then-last told e₂ = e₂ ∙ sym (is ∙ passed-append (ready_checks count lens grid knots coefs ledger) last ready-positive (is-accepted told e))
+      pub then-last : ◌≡◌ {A = ℕ} 0 (first_refusal (ready_checks count lens grid knots coefs ledger)) → {n : ℕ} → n ≡ first_refusal last → n ≡ answer
+      then-last e e₂ = e₂ ∙ sym (is ∙ passed-append (ready_checks count lens grid knots coefs ledger) last ready-positive (sym e))
 
 module _ (count : ℕ) (lens : List ℕ) (grid knots : List Check) where
   pub begin-ready : (samples coefs ledger scratch : ℕ)
@@ -211,11 +203,10 @@ module _ (count : ℕ) (lens : List ℕ) (grid knots : List Check) where
           ∙ ap first_refusal (sym (append_assoc (ready_checks count lens grid knots (length state.coefs) (length state.ledger)) _ _))
 
       -- a call that they refuse, and what is left to check where they pass: the line
-      pub call-not-ready : {x : Answer} {r : Refusal} → x ≡ Refused r
-          → answer_number x ≡ first_refusal (call_ready_checks count lens grid knots (length state.coefs) (length state.ledger) (length call.scratch))
+      pub call-not-ready : (r : Refusal) → refusal_number r ≡ first_refusal (call_ready_checks count lens grid knots (length state.coefs) (length state.ledger) (length call.scratch))
           → refusal_number r ≡ call_answer count lens grid knots call state
-      call-not-ready {r = r} told e =
-          refusal-append r (call_ready_checks count lens grid knots (length state.coefs) (length state.ledger) (length call.scratch)) _ (is-refused told e) ∙ sym call-checks
+      call-not-ready r e =
+          refusal-append r (call_ready_checks count lens grid knots (length state.coefs) (length state.ledger) (length call.scratch)) _ e ∙ sym call-checks
 
       pub line-left : first_refusal (call_ready_checks count lens grid knots (length state.coefs) (length state.ledger) (length call.scratch)) ≡ 0
           → call_answer count lens grid knots call state ≡ first_refusal (due_checks (take count lens) call.axis call.line state.ledger)

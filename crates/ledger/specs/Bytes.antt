@@ -1,13 +1,12 @@
 -- The bytes of a line, and what a search for a line that is due finds. For contracts inside the library. Assumes nothing.
-use Rattle.std.specs.Prelude.{◌≡◌, Bool, not, List, ℕ, ◌<◌, eqb}
+use Rattle.std.specs.Prelude.{Result, Ok, Err, ◌≡◌, Bool, not, List, ℕ, ◌<◌, eqb}
 use Rattle.shape.specs.Cells.{line}
 use Rattle.shape.specs.Checks.{first_refusal}
 use Rattle.shape.specs.Refusal.{refusal_number}
 use Rattle.shape.specs.Line.{LineIs}
-use Rattle.shape.specs.declared.inner.Line.{Line}
+use Rattle.shape.specs.declared.answers.Refusal.{Refusal}
+use Rattle.shape.specs.declared.line.Line.{Line}
 use Rattle.book.specs.LineCall.{due_checks}
-use Rattle.ledger.specs.declared.bytes.Due.{Due}
-use Rattle.ledger.specs.declared.bytes.Due.TheVariants.{At, Refused}
 
 -- the byte of entry i of a line is not a
 abbrev pub byte_other : ℕ → ℕ → ℕ → List ℕ → ℕ → Bool
@@ -22,6 +21,6 @@ abbrev pub each : ℕ → ℕ → ℕ
 each v i = v
 
 -- line l of axis a, by its numbers, where it is due; else the refusal
-abbrev pub DueLooked : List ℕ → ℕ → ℕ → List ℕ → Due → Type 0
-DueLooked dims a l ledger (At found) = LineIs dims a l found × (first_refusal (due_checks dims a l ledger) ≡ 0)
-DueLooked dims a l ledger (Refused refusal) = refusal_number refusal ≡ first_refusal (due_checks dims a l ledger)
+abbrev pub DueLooked : List ℕ → ℕ → ℕ → List ℕ → Result Line Refusal → Type 0
+DueLooked dims a l ledger (Ok found) = LineIs dims a l found × (first_refusal (due_checks dims a l ledger) ≡ 0)
+DueLooked dims a l ledger (Err refusal) = refusal_number refusal ≡ first_refusal (due_checks dims a l ledger)

@@ -4,7 +4,6 @@ ghost use Rattle.std.specs.Prelude.{◌≡◌, [], ◌∷◌, ◌-◌, ◌<◌, 
 ghost use Rattle.shape.specs.Shape.{size};
 ghost use Rattle.shape.specs.Cells.{on_line, line, write_line};
 ghost use Rattle.shape.specs.Checks.{refuse, first_refusal};
-ghost use Rattle.shape.specs.Usable.{Usable};
 ghost use Rattle.shape.specs.Line.{LineInside};
 ghost use Rattle.shape.specs.Refusal.{answer_number};
 ghost use Rattle.shape.specs.Below.{any_below};
@@ -12,8 +11,7 @@ ghost use Rattle.book.specs.LineCall.{byte_above, byte_below, one_more};
 ghost use Rattle.ledger.specs.Bytes.{byte_other, EachByte, each, DueLooked};
 
 use multibspline::place;
-use shape::inner::{Line, LineFound, find_line};
-use shape::{Answer, Refusal};
+use shape::{Axes, Line, Refusal};
 
 // The byte of entry i of a line.
 fn byte(base: usize, stride: usize, n: usize, i: usize, ledger: &[u8]) -> usize
@@ -56,38 +54,29 @@ fn any_other(a: usize, base: usize, stride: usize, n: usize, ledger: &[u8]) -> b
 
 // Refuses with 8 a line of axis a that is solved already, some byte on it above a, and with 9 one that is not due, some below.
 // A line that is due is gone over once.
-fn check_bytes(a: usize, base: usize, stride: usize, n: usize, ledger: &[u8]) -> Answer
+fn check_bytes(a: usize, base: usize, stride: usize, n: usize, ledger: &[u8]) -> Result<(), Refusal>
     requires { on_line base stride (n - 1) < length ledger.now }
     ensures { answer_number result ≡ first_refusal (refuse 8 (any_below (byte_above a base stride ledger.now) n) ∷ refuse 9 (any_below (byte_below a base stride ledger.now) n) ∷ []) }
 {
     if !any_other(a, base, stride, n, ledger) {
-        return Answer::Accepted;
+        return Ok(());
     }
     if any_above(a, base, stride, n, ledger) {
-        return Answer::Refused(Refusal::AlreadySolved);
+        return Err(Refusal::AlreadySolved);
     }
-    Answer::Refused(Refusal::NotDue)
+    Err(Refusal::NotDue)
 }
 
-// A line that is due, or why it is not.
-#[derive(Clone, Copy)]
-pub enum Due {
-    At(Line),
-    Refused(Refusal),
-}
-
-// Whether a line is due. Refuses with 7 where there is no such axis or line, then with 8 and 9.
-pub fn find_due(count: usize, dims: [usize; 4], axis: usize, line: usize, ledger: &[u8]) -> Due
-    requires { Usable count dims × (length ledger.now ≡ size (take count dims)) }
-    ensures { DueLooked (take count dims) axis line ledger.now result }
+// A line that is due, or why it is not: 7 where there is no such axis or line, then 8 and 9.
+pub fn find_due(axes: Axes, axis: usize, line: usize, ledger: &[u8]) -> Result<Line, Refusal>
+    requires { length ledger.now ≡ size (take axes.count axes.dims) }
+    ensures { DueLooked (take axes.count axes.dims) axis line ledger.now result }
 {
-    let LineFound::At(found) = find_line(count, dims, axis, line) else {
-        return Due::Refused(Refusal::NoSuchLine);
+    let Some(found) = axes.line(axis, line) else {
+        return Err(Refusal::NoSuchLine);
     };
-    if let Answer::Refused(refusal) = check_bytes(axis, found.base, found.stride, found.n, ledger) {
-        return Due::Refused(refusal);
-    }
-    Due::At(found)
+    check_bytes(axis, found.base, found.stride, found.n, ledger)?;
+    Ok(found)
 }
 
 // The byte of entry i of a line is set.

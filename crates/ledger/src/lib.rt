@@ -5,5 +5,5 @@
 mod bytes;
 mod shared;
 
-pub use bytes::{Due, bump_line, find_due};
+pub use bytes::{bump_line, find_due};
 pub use shared::{check_held, check_lent, check_lists, check_scratch, start};

@@ -3,62 +3,57 @@
 ghost use Rattle.std.specs.Prelude.{◌≡◌, ◌++◌, length, take, replicate};
 ghost use Rattle.shape.specs.Shape.{size};
 ghost use Rattle.shape.specs.Checks.{first_refusal, length_check, scratch_check};
-ghost use Rattle.shape.specs.Usable.{Usable};
 ghost use Rattle.shape.specs.Refusal.{answer_number};
 
 use crate::bytes::clear;
 use multibspline::copy;
-use shape::inner::{points_of, scratch_of};
-use shape::{Answer, Refusal};
+use shape::{Axes, Refusal};
 
 // 2 for the length of the coefficients, then for that of the ledger.
-pub fn check_held(count: usize, dims: [usize; 4], coeffs: usize, ledger: usize) -> Answer
-    requires { Usable count dims }
-    ensures { answer_number result ≡ first_refusal (length_check (size (take count dims)) coeffs ++ length_check (size (take count dims)) ledger) }
+pub fn check_held(axes: Axes, coeffs: usize, ledger: usize) -> Result<(), Refusal>
+    ensures { answer_number result ≡ first_refusal (length_check (size (take axes.count axes.dims)) coeffs ++ length_check (size (take axes.count axes.dims)) ledger) }
 {
-    let points = points_of(count, dims);
+    let points = axes.points();
     if coeffs != points {
-        return Answer::Refused(Refusal::DimensionMismatch);
+        return Err(Refusal::DimensionMismatch);
     }
     if ledger != points {
-        return Answer::Refused(Refusal::DimensionMismatch);
+        return Err(Refusal::DimensionMismatch);
     }
-    Answer::Accepted
+    Ok(())
 }
 
 // 4 for the length of scratch.
-pub fn check_scratch(count: usize, dims: [usize; 4], scratch: usize) -> Answer
-    requires { Usable count dims }
-    ensures { answer_number result ≡ first_refusal (scratch_check (take count dims) scratch) }
+pub fn check_scratch(axes: Axes, scratch: usize) -> Result<(), Refusal>
+    ensures { answer_number result ≡ first_refusal (scratch_check (take axes.count axes.dims) scratch) }
 {
-    if scratch < scratch_of(count, dims) {
-        return Answer::Refused(Refusal::ScratchTooSmall);
+    if scratch < axes.scratch_len() {
+        return Err(Refusal::ScratchTooSmall);
     }
-    Answer::Accepted
+    Ok(())
 }
 
 // 2 for the length of the samples, then 4 for that of scratch.
-pub fn check_lent(count: usize, dims: [usize; 4], vals: usize, scratch: usize) -> Answer
-    requires { Usable count dims }
-    ensures { answer_number result ≡ first_refusal (length_check (size (take count dims)) vals ++ scratch_check (take count dims) scratch) }
+pub fn check_lent(axes: Axes, vals: usize, scratch: usize) -> Result<(), Refusal>
+    ensures { answer_number result ≡ first_refusal (length_check (size (take axes.count axes.dims)) vals ++ scratch_check (take axes.count axes.dims) scratch) }
 {
-    if vals != points_of(count, dims) {
-        return Answer::Refused(Refusal::DimensionMismatch);
+    if vals != axes.points() {
+        return Err(Refusal::DimensionMismatch);
     }
-    check_scratch(count, dims, scratch)
+    check_scratch(axes, scratch)
 }
 
 // 2 where the lists of axes, lines and answers disagree in length.
-pub fn check_lists(axes: usize, lines: usize, answers: usize) -> Answer
+pub fn check_lists(axes: usize, lines: usize, answers: usize) -> Result<(), Refusal>
     ensures { answer_number result ≡ first_refusal (length_check axes lines ++ length_check axes answers) }
 {
     if lines != axes {
-        return Answer::Refused(Refusal::DimensionMismatch);
+        return Err(Refusal::DimensionMismatch);
     }
     if answers != axes {
-        return Answer::Refused(Refusal::DimensionMismatch);
+        return Err(Refusal::DimensionMismatch);
     }
-    Answer::Accepted
+    Ok(())
 }
 
 // The samples are copied, and the ledger is all zeros.

@@ -11,7 +11,6 @@ use lib.Ieee.{Float, binary64}
 use borrow.Author.Tests.{eq-eqb}
 use Rattle.shape.specs.Checks.{first_refusal, shape_checks, regular_fit_checks}
 use Rattle.shape.specs.Fit.{Fitted, FitLeaves}
-use Rattle.shape.specs.declared.answers.Answer.TheVariants.{Accepted}
 use Rattle.shape.proofs.Accepted.{usable-accepted, axes-are, storage-is, scratch-is}
 use Rattle.knots.specs.Joined.{total, all_rise}
 use Rattle.evaluation.specs.Axes.{in_use, query}

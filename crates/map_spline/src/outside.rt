@@ -29,7 +29,7 @@ fn regular_axis(map: MultiBsplineRegular, axis: usize, x: f64) -> bool
 {
     match map.place(axis, x) {
         regular_map::Placed::At(sat, _) => is_outside(sat),
-        regular_map::Placed::Refused(_) => false,
+        regular_map::Err(_) => false,
     }
 }
 
@@ -57,7 +57,7 @@ fn rectilinear_axis(map: MultiBsplineRectilinear, grid: &[f64], axis: usize, x: 
             let sat = loc.sat;
             is_outside(sat)
         }
-        rectilinear_map::Placed::Refused(_) => false,
+        rectilinear_map::Err(_) => false,
     }
 }
 

@@ -10,7 +10,6 @@ ghost use Rattle.map_spline.specs.Surface.{regular_surface, rectilinear_surface,
 
 use crate::build::Map;
 use crate::outside::{rectilinear_outside, regular_outside};
-use evaluation::Valued;
 use rectilinear_map::MultiBsplineRectilinear;
 use regular_map::MultiBsplineRegular;
 use shape::Refusal;
@@ -40,7 +39,7 @@ fn ask_even(map: MultiBsplineRegular, coeffs: &[f64], x: &[f64]) -> Reply
 {
     let valued = map.interp_one(coeffs, x);
     match valued {
-        Valued::Value(value) => {
+        Ok(value) => {
             let gradient = map.interp_one_grad(coeffs, x);
             let outside = regular_outside(map, x);
             let parts = gradient.parts;
@@ -51,7 +50,7 @@ fn ask_even(map: MultiBsplineRegular, coeffs: &[f64], x: &[f64]) -> Reply
                 parts: parts,
             }
         }
-        Valued::Refused(refusal) => refused(refusal),
+        Err(refusal) => refused(refusal),
     }
 }
 
@@ -60,7 +59,7 @@ fn ask_uneven(map: MultiBsplineRectilinear, grid: &[f64], coeffs: &[f64], x: &[f
 {
     let valued = map.interp_one(grid, coeffs, x);
     match valued {
-        Valued::Value(value) => {
+        Ok(value) => {
             let gradient = map.interp_one_grad(grid, coeffs, x);
             let outside = rectilinear_outside(map, grid, x);
             let parts = gradient.parts;
@@ -71,7 +70,7 @@ fn ask_uneven(map: MultiBsplineRectilinear, grid: &[f64], coeffs: &[f64], x: &[f
                 parts: parts,
             }
         }
-        Valued::Refused(refusal) => refused(refusal),
+        Err(refusal) => refused(refusal),
     }
 }
 

@@ -1,5 +1,5 @@
 -- The checks of `solve_line`, outcome by outcome, and what an accepted line gives. Assumes nothing.
-use mathlib.Core.Path.{◌≡◌, sym, ap, ◌∙◌}
+use mathlib.Core.Path.{◌≡◌, sym, ◌∙◌}
 use mathlib.Core.Bool.{true, false}
 use mathlib.Core.Logic.{⊎_elim}
 use Prim.Native.Nat.{ℕ, ◌+◌, ◌-◌, ◌/◌, ◌≤◌, ◌<◌}
@@ -9,9 +9,6 @@ use borrow.Author.Tests.{lt-ltb, le-ltb, ltb-true, ltb-false, le-leb, lt-leb, no
 use lib.Dec.{ltb, leb}
 use Rattle.shape.specs.Cells.{on_line}
 use Rattle.shape.specs.Checks.{first_refusal}
-use Rattle.shape.specs.Refusal.{answer_number}
-use Rattle.shape.specs.declared.answers.Answer.{Answer}
-use Rattle.shape.specs.declared.answers.Answer.TheVariants.{Accepted}
 use Rattle.shape.proofs.Cells.{lt-or-ge}
 use Rattle.shape.proofs.Checks.{check-passed}
 use Rattle.shape.proofs.Lengths.{or-false}
@@ -54,10 +51,10 @@ module _ (base stride n m coefs scratch : ℕ) where
     line-passed g = rw (le-ltb n 4 h, le-ltb m n room, le-ltb scratch (m + n) fits, g)
 
   -- an accepted line has four points, lies within the coefficients, and has room in scratch
-  pub line-fits : {x : Answer} → x ≡ Accepted → answer_number x ≡ line_answer base stride n m coefs scratch → ((4 ≤ n) × (on_line base stride (n - 1) < coefs)) × ((n ≤ m) × (m + n ≤ scratch))
+  pub line-fits : ◌≡◌ {A = ℕ} 0 (line_answer base stride n m coefs scratch) → ((4 ≤ n) × (on_line base stride (n - 1) < coefs)) × ((n ≤ m) × (m + n ≤ scratch))
   unfolding line_answer
-  line-fits told e =
-      let a = check-passed _ 2 _ (omega arith) (sym e ∙ ap answer_number told) in
+  line-fits e =
+      let a = check-passed _ 2 _ (omega arith) (sym e) in
       let b = check-passed _ 2 _ (omega arith) a.1 in
       let c = check-passed _ 2 _ (omega arith) b.1 in
       let r = or-false (ltb m n) (ltb scratch (m + n)) b.0 in

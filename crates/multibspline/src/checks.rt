@@ -4,7 +4,7 @@ ghost use Rattle.shape.specs.Cells.{on_line};
 ghost use Rattle.shape.specs.Refusal.{answer_number};
 ghost use Rattle.multibspline.specs.Line.{line_answer};
 
-use shape::{Answer, Refusal};
+use shape::Refusal;
 
 // Whether the last of n entries, from `base`, `stride` apart, lies within `len`; tested by division, so that nothing overflows.
 fn ends_within(base: usize, stride: usize, n: usize, len: usize) -> bool
@@ -27,23 +27,23 @@ pub fn check_line(
     longest: usize,
     coeffs: usize,
     scratch: usize,
-) -> Answer
+) -> Result<(), Refusal>
     ensures { answer_number result ≡ line_answer base stride n longest coeffs scratch }
 {
     if n < 4 {
-        return Answer::Refused(Refusal::DimensionMismatch);
+        return Err(Refusal::DimensionMismatch);
     }
     if longest < n {
-        return Answer::Refused(Refusal::DimensionMismatch);
+        return Err(Refusal::DimensionMismatch);
     }
     if scratch < longest {
-        return Answer::Refused(Refusal::DimensionMismatch);
+        return Err(Refusal::DimensionMismatch);
     }
     if scratch - longest < n {
-        return Answer::Refused(Refusal::DimensionMismatch);
+        return Err(Refusal::DimensionMismatch);
     }
     if !ends_within(base, stride, n, coeffs) {
-        return Answer::Refused(Refusal::DimensionMismatch);
+        return Err(Refusal::DimensionMismatch);
     }
-    Answer::Accepted
+    Ok(())
 }

@@ -1,5 +1,5 @@
 -- The checks of a rectilinear fit, outcome by outcome. Assumes nothing.
-use mathlib.Core.Path.{◌≡◌, sym, ap, ◌∙◌}
+use mathlib.Core.Path.{◌≡◌, sym, ◌∙◌}
 use mathlib.Core.Bool.{Bool, true, false, not}
 use mathlib.Core.List.{List, [], ◌++◌}
 use Prim.Native.Nat.{ℕ, ◌≤◌, ◌<◌}
@@ -7,11 +7,9 @@ use lib.ListN.{length, take}
 use lib.Ieee.{Float}
 use Rattle.shape.specs.Shape.{size}
 use Rattle.shape.specs.Checks.{Check, first_refusal, shape_checks, length_check, scratch_check}
-use Rattle.shape.specs.Refusal.{refusal_number, answer_number}
+use Rattle.shape.specs.Refusal.{refusal_number}
 use Rattle.shape.specs.Sizes.{coeff_storage_len, construction_scratch_len}
 use Rattle.shape.specs.declared.answers.Refusal.{Refusal}
-use Rattle.shape.specs.declared.answers.Answer.{Answer}
-use Rattle.shape.specs.declared.answers.Answer.TheVariants.{Refused}
 use Rattle.shape.proofs.Accepted.{refusal-append, accepted-append, storage-is, scratch-is}
 use Rattle.shape.proofs.Checks.{check-fails, check-passes, length-fails, length-passes, scratch-fails, scratch-passes}
 use Rattle.knots.specs.Joined.{total, all_rise}
@@ -39,9 +37,9 @@ module _ (count : ℕ) (lens : List ℕ) (grid : List Float) (samples coefs scra
   abbrev Answered : ℕ → Type 0
   Answered n = n ≡ first_refusal (rectilinear_fit_checks count lens grid samples coefs scratch)
 
-  pub fit-shape : {x : Answer} {r : Refusal} → x ≡ Refused r → answer_number x ≡ first_refusal (shape_checks count lens) → Answered (refusal_number r)
+  pub fit-shape : (r : Refusal) → refusal_number r ≡ first_refusal (shape_checks count lens) → Answered (refusal_number r)
   unfolding rectilinear_fit_checks
-  fit-shape {x} {r} told e = refusal-append r (shape_checks count lens) _ (sym (ap answer_number told) ∙ e)
+  fit-shape r e = refusal-append r (shape_checks count lens) _ e
 
   -- once the shape has passed
   module _ (ok : first_refusal (shape_checks count lens) ≡ 0) where

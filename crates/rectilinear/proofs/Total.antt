@@ -1,5 +1,5 @@
 -- Demand 1 for the rectilinear fit, and what an accepted one may take for granted. Assumes nothing.
-use mathlib.Core.Path.{◌≡◌, refl, sym, ap, ◌∙◌}
+use mathlib.Core.Path.{◌≡◌, refl, sym}
 use mathlib.Core.Logic.{◌↔◌}
 use mathlib.Core.Bool.{true, false, not}
 use mathlib.Core.List.{List, ◌∷◌, ◌++◌}
@@ -11,9 +11,6 @@ use lib.Ieee.{Float}
 use Rattle.shape.specs.Shape.{longest, size}
 use Rattle.shape.specs.Checks.{Check, first_refusal, Positive}
 use Rattle.shape.specs.Usable.{Usable}
-use Rattle.shape.specs.Refusal.{answer_number}
-use Rattle.shape.specs.declared.answers.Answer.{Answer}
-use Rattle.shape.specs.declared.answers.Answer.TheVariants.{Accepted}
 use Rattle.shape.specs.Outcome.{Condition}
 use Rattle.shape.proofs.Accepted.{axes-are}
 use Rattle.shape.proofs.Outcome.{Tests, none, test, all_hold, shape-test, length-test, scratch-test}
@@ -84,8 +81,8 @@ module _ (count : ℕ) (lens : List ℕ) (grid : List Float) (samples coefs scra
         }
 
     -- by the answer of the checks
-    pub fit-range : {x : Answer} → x ≡ Accepted → answer_number x ≡ first_refusal (rectilinear_fit_checks count lens grid samples coefs scratch) → FitAccepted count lens grid samples coefs scratch
-    fit-range told e = fit-accepted (sym e ∙ ap answer_number told)
+    pub fit-range : ◌≡◌ {A = ℕ} 0 (first_refusal (rectilinear_fit_checks count lens grid samples coefs scratch)) → FitAccepted count lens grid samples coefs scratch
+    fit-range e = fit-accepted (sym e)
 
     pub accepted-rise : FitAccepted count lens grid samples coefs scratch → all_rise grid (take count lens) count ≡ true
     accepted-rise w = all-rising count lens grid w.rising

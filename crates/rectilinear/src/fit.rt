@@ -18,8 +18,7 @@ use multibspline::copy;
 use rectilinear_lines::solve_checked;
 use rectilinear_sweeps::{solve_ends, solve_slabs, upper_numbers};
 use rectilinear_weights::{Ghost, high_ghost_coeffs, low_ghost_coeffs};
-use shape::inner::first_cell_of;
-use shape::{Answer, Refusal, Shape};
+use shape::{Refusal, Shape, first_cell_of};
 
 // The checks of a fit, from the joined grid and the lengths of its buffers.
 fn check_fit(
@@ -29,30 +28,28 @@ fn check_fit(
     vals: usize,
     coeffs: usize,
     scratch: usize,
-) -> Answer
+) -> Result<(), Refusal>
     ensures { answer_number result ≡ first_refusal (rectilinear_fit_checks count dims grid.now vals coeffs scratch) }
 {
     let shape = Shape { count, dims };
-    if let Answer::Refused(refusal) = shape.check() {
-        return Answer::Refused(refusal);
-    }
+    shape.check()?;
     let knots = grid.len();
     if knots != grid_len(count, dims) {
-        return Answer::Refused(Refusal::DimensionMismatch);
+        return Err(Refusal::DimensionMismatch);
     }
     if coeffs != shape.coeff_storage_len() {
-        return Answer::Refused(Refusal::DimensionMismatch);
+        return Err(Refusal::DimensionMismatch);
     }
     if !all_rise(grid, count, dims) {
-        return Answer::Refused(Refusal::NotIncreasing);
+        return Err(Refusal::NotIncreasing);
     }
     if vals != shape.coeff_storage_len() {
-        return Answer::Refused(Refusal::DimensionMismatch);
+        return Err(Refusal::DimensionMismatch);
     }
     if scratch < shape.construction_scratch_len() {
-        return Answer::Refused(Refusal::ScratchTooSmall);
+        return Err(Refusal::ScratchTooSmall);
     }
-    Answer::Accepted
+    Ok(())
 }
 
 // Line l of an axis with the given knots, which are s apart in the map; m is the length of the longest axis.
@@ -200,7 +197,7 @@ pub fn coefficients(
     vals: &[f64],
     coeffs: &mut [f64],
     scratch: &mut [f64],
-) -> Answer
+) -> Result<(), Refusal>
     ensures { RectilinearFitted binary64 shape.count shape.dims grid.now vals.now coeffs.old scratch.old (answer_number result) coeffs.new scratch.new }
 {
     let count = shape.count;
@@ -215,20 +212,11 @@ fn fit(
     vals: &[f64],
     coeffs: &mut [f64],
     scratch: &mut [f64],
-) -> Answer
+) -> Result<(), Refusal>
     ensures { RectilinearFitted binary64 count dims grid.now vals.now coeffs.old scratch.old (answer_number result) coeffs.new scratch.new }
 {
-    if let Answer::Refused(refusal) = check_fit(
-        count,
-        dims,
-        grid,
-        vals.len(),
-        coeffs.len(),
-        scratch.len(),
-    ) {
-        return Answer::Refused(refusal);
-    }
+    check_fit(count, dims, grid, vals.len(), coeffs.len(), scratch.len())?;
     copy(vals, coeffs);
     solve_axes(count, dims, grid, coeffs, scratch);
-    Answer::Accepted
+    Ok(())
 }

@@ -18,7 +18,7 @@ ghost use Rattle.rectilinear_lines.specs.Line.{LineSolved};
 use multibspline::{Reduced, back_substitute, check_line, eliminate, entry, keep_row};
 use rectilinear_basis::basis_span_weights;
 use rectilinear_weights::Ghost;
-use shape::Answer;
+use shape::Refusal;
 
 // One row of the system of a line.
 #[derive(Clone, Copy)]
@@ -230,22 +230,20 @@ pub fn solve_line(
     longest: usize,
     coeffs: &mut [f64],
     scratch: &mut [f64],
-) -> Answer
+) -> Result<(), Refusal>
     ensures { LineSolved binary64 grid.now (ghost_numbers low_ghost) (ghost_numbers high_ghost) base stride longest
         coeffs.old scratch.old (answer_number result) coeffs.new scratch.new }
 {
-    if let Answer::Refused(refusal) = check_line(
+    check_line(
         base,
         stride,
         grid.len(),
         longest,
         coeffs.len(),
         scratch.len(),
-    ) {
-        return Answer::Refused(refusal);
-    }
+    )?;
     solve_checked(
         grid, low_ghost, high_ghost, base, stride, longest, coeffs, scratch,
     );
-    Answer::Accepted
+    Ok(())
 }

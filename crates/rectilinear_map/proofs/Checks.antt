@@ -1,5 +1,5 @@
 -- The checks of a rectilinear map with its joined grid, outcome by outcome, and what an accepted map has. Assumes nothing.
-use mathlib.Core.Path.{◌≡◌, sym, ap, ◌∙◌}
+use mathlib.Core.Path.{◌≡◌, sym, ◌∙◌}
 use mathlib.Core.Bool.{true, false, not}
 use mathlib.Core.List.{List, [], ◌++◌}
 use Prim.Native.Nat.{ℕ}
@@ -9,10 +9,8 @@ use lib.ListN.{length, take}
 use lib.Ieee.{Float}
 use Rattle.shape.specs.Shape.{size}
 use Rattle.shape.specs.Checks.{first_refusal, shape_checks, length_check, Positive}
-use Rattle.shape.specs.Refusal.{refusal_number, answer_number}
+use Rattle.shape.specs.Refusal.{refusal_number}
 use Rattle.shape.specs.declared.answers.Refusal.{Refusal}
-use Rattle.shape.specs.declared.answers.Answer.{Answer}
-use Rattle.shape.specs.declared.answers.Answer.TheVariants.{Accepted, Refused}
 use Rattle.shape.proofs.Accepted.{refusal-append, accepted-append, prefix-passed, usable, axes-are}
 use Rattle.shape.proofs.Checks.{check-fails, check-passes, check-passed, length-fails, length-passes, length-passed}
 use Rattle.knots.specs.Joined.{total, all_rise}
@@ -25,9 +23,9 @@ use Rattle.rectilinear_blocks.specs.Sound.{Gridded, Sound}
 -- ---- from a grid alone
 
 module _ (count : ℕ) (lens : List ℕ) (grid : List Float) where
-  pub grid-shape : {x : Answer} {r : Refusal} → x ≡ Refused r → answer_number x ≡ first_refusal (shape_checks count lens) → refusal_number r ≡ grid_answer count lens grid
+  pub grid-shape : (r : Refusal) → refusal_number r ≡ first_refusal (shape_checks count lens) → refusal_number r ≡ grid_answer count lens grid
   unfolding grid_answer
-  grid-shape {x} {r} told e = refusal-append r (shape_checks count lens) (grid_check (take count lens) grid) (sym (ap answer_number told) ∙ e)
+  grid-shape r e = refusal-append r (shape_checks count lens) (grid_check (take count lens) grid) e
 
   module _ (ok : first_refusal (shape_checks count lens) ≡ 0) where
     pub grid-length : (length grid ≡ total (take count lens) → ⊥) → ◌≡◌ {A = ℕ} 2 (grid_answer count lens grid)
@@ -44,9 +42,9 @@ pub map-numbered : (count : ℕ) (lens : List ℕ) (grid : List Float) (coefs : 
 map-numbered count lens grid coefs = (omega arith, (omega arith, (omega arith, (omega arith, (omega arith, (omega arith, tt))))))
 
 module _ (count : ℕ) (lens : List ℕ) (grid : List Float) (coefs : ℕ) where
-  pub map-shape : {x : Answer} {r : Refusal} → x ≡ Refused r → answer_number x ≡ first_refusal (shape_checks count lens) → refusal_number r ≡ map_answer count lens grid coefs
+  pub map-shape : (r : Refusal) → refusal_number r ≡ first_refusal (shape_checks count lens) → refusal_number r ≡ map_answer count lens grid coefs
   unfolding map_answer
-  map-shape {x} {r} told e = refusal-append r (shape_checks count lens) _ (sym (ap answer_number told) ∙ e)
+  map-shape r e = refusal-append r (shape_checks count lens) _ e
 
   -- once the shape has passed
   module _ (ok : first_refusal (shape_checks count lens) ≡ 0) where
@@ -93,11 +91,11 @@ module _ (count : ℕ) (lens : List ℕ) (grid : List Float) (coefs : ℕ) where
         sized = k.0;
       }
 
-  pub told-sound : length lens ≡ 4 → {x : Answer} → x ≡ Accepted → answer_number x ≡ map_answer count lens grid coefs → Sound count lens grid coefs
-  told-sound four told e = map-sound four (sym e ∙ ap answer_number told)
+  pub told-sound : length lens ≡ 4 → ◌≡◌ {A = ℕ} 0 (map_answer count lens grid coefs) → Sound count lens grid coefs
+  told-sound four e = map-sound four (sym e)
 
 -- what a map has whose fit is accepted
-pub fit-gridded : (count : ℕ) (lens : List ℕ) (grid : List Float) (samples coefs scratch : ℕ) → length lens ≡ 4 → {x : Answer} → x ≡ Accepted → answer_number x ≡ first_refusal (rectilinear_fit_checks count lens grid samples coefs scratch) → Gridded count lens grid
-fit-gridded count lens grid samples coefs scratch four told e =
-    let w = fit-range count lens grid samples coefs scratch four told e in
+pub fit-gridded : (count : ℕ) (lens : List ℕ) (grid : List Float) (samples coefs scratch : ℕ) → length lens ≡ 4 → ◌≡◌ {A = ℕ} 0 (first_refusal (rectilinear_fit_checks count lens grid samples coefs scratch)) → Gridded count lens grid
+fit-gridded count lens grid samples coefs scratch four e =
+    let w = fit-range count lens grid samples coefs scratch four e in
     record { shape = w.shape; joined = w.joined; rising = accepted-rise count lens grid samples coefs scratch four w }

@@ -6,7 +6,6 @@ use Rattle.knots.specs.Joined.{knots_of}
 use Rattle.rectilinear_weights.specs.Ghosts.{low_ghost_coeffs, high_ghost_coeffs}
 use Rattle.evaluation.specs.Axes.{per_axis, in_use}
 use Rattle.rectilinear_blocks.specs.Map.{RectilinearMap}
-use Rattle.evaluation.specs.Built.{BuiltFrom}
 
 abbrev pub no_ghost : List Float
 no_ghost = f0 ∷ f0 ∷ f0 ∷ []
@@ -47,7 +46,3 @@ blank = record {
   high = no_ghost ∷ no_ghost ∷ no_ghost ∷ no_ghost ∷ [];
   linear = false;
 }
-
--- a function that builds a map, and answers so
-abbrev pub RectilinearBuilt : Format → ℕ → ℕ → List ℕ → List Float → Bool → ℕ → RectilinearMap → Type 0
-RectilinearBuilt f expected count lens grid linear answer handed = BuiltFrom expected (made f count lens grid linear) blank answer handed

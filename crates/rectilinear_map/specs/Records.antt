@@ -1,14 +1,14 @@
 -- The code's records, as the definitions see them: the only definitions here that are tied to a width. Assumes nothing.
-use Rattle.std.specs.Prelude.{Bool, List, ℕ, length, Float}
+use Rattle.std.specs.Prelude.{Bool, Result, List, ℕ, length, Float}
 use Rattle.std.specs.Float.{Format, binary64}
 use Rattle.shape.specs.Checks.{first_refusal}
-use Rattle.shape.specs.Refusal.{answer_number}
+use Rattle.shape.specs.declared.answers.Refusal.{Refusal}
+use Rattle.evaluation.specs.Built.{BuiltFrom}
 use Rattle.rectilinear.specs.Fit.{rectilinear_fit_checks}
 use Rattle.rectilinear_blocks.specs.Map.{RectilinearMap}
 use Rattle.rectilinear_blocks.specs.Records.{ghosts}
 use Rattle.rectilinear_blocks.specs.declared.grid.Grid.{Grid}
-use Rattle.rectilinear_map.specs.Map.{of_grid, RectilinearBuilt}
-use Rattle.rectilinear_map.specs.declared.record.Built.{Built}
+use Rattle.rectilinear_map.specs.Map.{of_grid, made}
 use Rattle.rectilinear_map.specs.declared.record.MultiBsplineRectilinear.{MultiBsplineRectilinear}
 
 -- the map that a record stands for
@@ -19,11 +19,11 @@ map_of r = record { count = r.count; lens = r.dims; low = ghosts r.low_ghost_coe
 abbrev pub by_knots : Grid → List Float → RectilinearMap
 by_knots g grid = of_grid binary64 g.count g.dims grid g.linear
 
--- what a function that builds a map answers and hands out
-abbrev pub BuiltAs : Format → ℕ → ℕ → List ℕ → List Float → Bool → Built → Type 0
-BuiltAs f expected count lens grid linear built = RectilinearBuilt f expected count lens grid linear (answer_number built.answer) (map_of built.map)
+-- what a function that builds a map hands out, and answers so
+abbrev pub BuiltAs : Format → ℕ → ℕ → List ℕ → List Float → Bool → Result MultiBsplineRectilinear Refusal → Type 0
+BuiltAs f expected count lens grid linear built = BuiltFrom map_of expected (made f count lens grid linear) built
 
 -- from samples: it answers what the fit answers
-abbrev pub BuiltByFit : Format → ℕ → List ℕ → List Float → Bool → List Float → List Float → List Float → Built → Type 0
+abbrev pub BuiltByFit : Format → ℕ → List ℕ → List Float → Bool → List Float → List Float → List Float → Result MultiBsplineRectilinear Refusal → Type 0
 BuiltByFit f count lens grid linear samples coefs scratch built =
     BuiltAs f (first_refusal (rectilinear_fit_checks count lens grid (length samples) (length coefs) (length scratch))) count lens grid linear built

@@ -10,7 +10,7 @@ use crate::blocks::{put_gradients, put_values};
 use crate::build::check_map;
 use crate::grid::grid_of;
 use crate::record::MultiBsplineRectilinear;
-use shape::{Answer, Refusal};
+use shape::Refusal;
 
 // Values at a batch of queries.
 pub fn values(
@@ -19,16 +19,14 @@ pub fn values(
     coeffs: &[f64],
     xs: &[f64],
     out: &mut [f64],
-) -> Answer
+) -> Result<(), Refusal>
     ensures { ValueBatch (rectilinear binary64 (map_of map) grid.now coeffs.now) xs.now out.old (answer_number result) out.new }
 {
     let dims = map.dims;
-    if let Answer::Refused(refusal) = check_map(map.count, dims, grid, coeffs.len()) {
-        return Answer::Refused(refusal);
-    }
+    check_map(map.count, dims, grid, coeffs.len())?;
     let n = out.len();
     if xs.len() != map.count * n {
-        return Answer::Refused(Refusal::DimensionMismatch);
+        return Err(Refusal::DimensionMismatch);
     }
     put_values(grid_of(map), grid, coeffs, xs, n, out)
 }
@@ -40,19 +38,17 @@ pub fn gradients(
     coeffs: &[f64],
     xs: &[f64],
     out: &mut [f64],
-) -> Answer
+) -> Result<(), Refusal>
     ensures { GradientBatch (rectilinear binary64 (map_of map) grid.now coeffs.now) xs.now out.old (answer_number result) out.new }
 {
     let dims = map.dims;
     let count = map.count;
-    if let Answer::Refused(refusal) = check_map(count, dims, grid, coeffs.len()) {
-        return Answer::Refused(refusal);
-    }
+    check_map(count, dims, grid, coeffs.len())?;
     if out.len() % count != 0 {
-        return Answer::Refused(Refusal::DimensionMismatch);
+        return Err(Refusal::DimensionMismatch);
     }
     if xs.len() != out.len() {
-        return Answer::Refused(Refusal::DimensionMismatch);
+        return Err(Refusal::DimensionMismatch);
     }
     let n = out.len() / count;
     put_gradients(grid_of(map), grid, coeffs, xs, n, out)

@@ -9,7 +9,7 @@ ghost use Rattle.rectilinear_blocks.specs.Records.{map_of, Accepted};
 
 use evaluation::{Span, block_size};
 use rectilinear_blocks::{Grid, gradients_block, values_block};
-use shape::{Answer, Refusal};
+use shape::Refusal;
 
 fn value_blocks(
     map: Grid,
@@ -20,7 +20,7 @@ fn value_blocks(
     spots: &mut [usize],
     work: &mut [f64],
     out: &mut [f64],
-) -> Answer
+) -> Result<(), Refusal>
     requires accepted { Accepted map grid.now × (length coeffs.now ≡ size (take map.count map.dims)) }
     requires n_in_bounds { (map.count * n ≤ length xs.now) × (n ≤ length out.old) × (160 ≤ length spots.old) × (512 ≤ length work.old) }
     ensures { ValueEntries (rectilinear binary64 (map_of map) grid.now coeffs.now) xs.now n out.old (answer_number result) out.new }
@@ -36,11 +36,11 @@ fn value_blocks(
         };
         let good = values_block(map, grid, coeffs, xs, s, spots, work, out);
         if good < m {
-            return Answer::Refused(Refusal::Unrepresentable);
+            return Err(Refusal::Unrepresentable);
         }
         from += m;
     }
-    Answer::Accepted
+    Ok(())
 }
 
 // The values of n queries, up to the first that is refused.
@@ -51,7 +51,7 @@ pub fn put_values(
     xs: &[f64],
     n: usize,
     out: &mut [f64],
-) -> Answer
+) -> Result<(), Refusal>
     requires { Accepted map grid.now × (length coeffs.now ≡ size (take map.count map.dims)) × (map.count * n ≤ length xs.now) × (n ≤ length out.old) }
     ensures { ValueEntries (rectilinear binary64 (map_of map) grid.now coeffs.now) xs.now n out.old (answer_number result) out.new }
 {
@@ -69,7 +69,7 @@ fn gradient_blocks(
     spots: &mut [usize],
     work: &mut [f64],
     out: &mut [f64],
-) -> Answer
+) -> Result<(), Refusal>
     requires accepted { Accepted map grid.now × (length coeffs.now ≡ size (take map.count map.dims)) }
     requires n_in_bounds { (map.count * n ≤ length xs.now) × (map.count * n ≤ length out.old) × (160 ≤ length spots.old) × (1024 ≤ length work.old) }
     ensures { GradientEntries (rectilinear binary64 (map_of map) grid.now coeffs.now) xs.now n out.old (answer_number result) out.new }
@@ -85,11 +85,11 @@ fn gradient_blocks(
         };
         let good = gradients_block(map, grid, coeffs, xs, s, spots, work, out);
         if good < m {
-            return Answer::Refused(Refusal::Unrepresentable);
+            return Err(Refusal::Unrepresentable);
         }
         from += m;
     }
-    Answer::Accepted
+    Ok(())
 }
 
 // The gradients of n queries, up to the first that is refused.
@@ -100,7 +100,7 @@ pub fn put_gradients(
     xs: &[f64],
     n: usize,
     out: &mut [f64],
-) -> Answer
+) -> Result<(), Refusal>
     requires { Accepted map grid.now × (length coeffs.now ≡ size (take map.count map.dims)) × (map.count * n ≤ length xs.now) × (map.count * n ≤ length out.old) }
     ensures { GradientEntries (rectilinear binary64 (map_of map) grid.now coeffs.now) xs.now n out.old (answer_number result) out.new }
 {

@@ -12,31 +12,28 @@ ghost use Rattle.rectilinear_map.specs.Map.{no_ghost, low_ghosts, high_ghosts, m
 ghost use Rattle.rectilinear_map.specs.Records.{map_of, BuiltAs, BuiltByFit};
 ghost use Rattle.rectilinear_blocks.specs.Eval.{grid_answer, map_answer};
 
-use crate::record::{Built, MultiBsplineRectilinear};
-use evaluation::used_lens;
+use crate::record::MultiBsplineRectilinear;
+use evaluation::{points_by_stride, used_lens};
 use knots::{all_rise, axis_knots, grid_len};
 use rectilinear_weights::{Ghost, high_ghost_coeffs, low_ghost_coeffs};
-use shape::inner::points_of;
-use shape::{Answer, Refusal, Shape};
+use shape::{Refusal, Shape};
 
 // The checks of a record and its grid: the shape, the length of the joined grid, that of the coefficients, the knots.
-pub fn check_map(count: usize, dims: [usize; 4], grid: &[f64], coeffs: usize) -> Answer
+pub fn check_map(count: usize, dims: [usize; 4], grid: &[f64], coeffs: usize) -> Result<(), Refusal>
     ensures { answer_number result ≡ map_answer count dims grid.now coeffs }
 {
     let shape = Shape { count, dims };
-    if let Answer::Refused(refusal) = shape.check() {
-        return Answer::Refused(refusal);
-    }
+    shape.check()?;
     if grid.len() != grid_len(count, dims) {
-        return Answer::Refused(Refusal::DimensionMismatch);
+        return Err(Refusal::DimensionMismatch);
     }
-    if coeffs != points_of(count, dims) {
-        return Answer::Refused(Refusal::DimensionMismatch);
+    if coeffs != points_by_stride(count, dims) {
+        return Err(Refusal::DimensionMismatch);
     }
     if !all_rise(grid, count, dims) {
-        return Answer::Refused(Refusal::NotIncreasing);
+        return Err(Refusal::NotIncreasing);
     }
-    Answer::Accepted
+    Ok(())
 }
 
 fn no_ghost() -> Ghost
@@ -117,58 +114,48 @@ pub fn blank() -> MultiBsplineRectilinear
     }
 }
 
-fn refused(refusal: Refusal) -> Built
-    ensures { (answer_number result.answer ≡ refusal_number refusal) × (map_of result.map ≡ blank) }
-{
-    let map = blank();
-    Built {
-        answer: Answer::Refused(refusal),
-        map: map,
-    }
-}
-
 // An accepted map: entries of axes not in use are zero.
-fn accepted(count: usize, dims: [usize; 4], grid: &[f64], linear: bool) -> Built
+fn accepted(count: usize, dims: [usize; 4], grid: &[f64], linear: bool) -> MultiBsplineRectilinear
     requires { Usable count dims × (length grid.now ≡ total (take count dims)) }
-    ensures { (answer_number result.answer ≡ 0) × (map_of result.map ≡ made binary64 count dims grid.now linear) }
+    ensures { map_of result ≡ made binary64 count dims grid.now linear }
 {
-    let low = low_ghosts(count, dims, grid);
-    let high = high_ghosts(count, dims, grid);
-    let dims = used_lens(count, dims);
-    let map = MultiBsplineRectilinear {
-        count: count,
-        dims: dims,
-        low_ghost_coeffs: low,
-        high_ghost_coeffs: high,
+    MultiBsplineRectilinear {
+        count,
+        dims: used_lens(count, dims),
+        low_ghost_coeffs: low_ghosts(count, dims, grid),
+        high_ghost_coeffs: high_ghosts(count, dims, grid),
         linearize_extrapolation: linear,
-    };
-    Built {
-        answer: Answer::Accepted,
-        map: map,
     }
 }
 
-pub fn build(count: usize, dims: [usize; 4], grid: &[f64], linear: bool, coeffs: usize) -> Built
+pub fn build(
+    count: usize,
+    dims: [usize; 4],
+    grid: &[f64],
+    linear: bool,
+    coeffs: usize,
+) -> Result<MultiBsplineRectilinear, Refusal>
     ensures { BuiltAs binary64 (map_answer count dims grid.now coeffs) count dims grid.now linear result }
 {
-    if let Answer::Refused(refusal) = check_map(count, dims, grid, coeffs) {
-        return refused(refusal);
-    }
-    accepted(count, dims, grid, linear)
+    check_map(count, dims, grid, coeffs)?;
+    Ok(accepted(count, dims, grid, linear))
 }
 
 // From the grid alone; the knots are left to the calls that evaluate the map.
-pub fn of_grid(count: usize, dims: [usize; 4], grid: &[f64], linear: bool) -> Built
+pub fn of_grid(
+    count: usize,
+    dims: [usize; 4],
+    grid: &[f64],
+    linear: bool,
+) -> Result<MultiBsplineRectilinear, Refusal>
     ensures { BuiltAs binary64 (grid_answer count dims grid.now) count dims grid.now linear result }
 {
     let shape = Shape { count, dims };
-    if let Answer::Refused(refusal) = shape.check() {
-        return refused(refusal);
-    }
+    shape.check()?;
     if grid.len() != grid_len(count, dims) {
-        return refused(Refusal::DimensionMismatch);
+        return Err(Refusal::DimensionMismatch);
     }
-    accepted(count, dims, grid, linear)
+    Ok(accepted(count, dims, grid, linear))
 }
 
 pub fn from_values(
@@ -179,15 +166,11 @@ pub fn from_values(
     vals: &[f64],
     coeffs: &mut [f64],
     scratch: &mut [f64],
-) -> Built
+) -> Result<MultiBsplineRectilinear, Refusal>
     ensures built_by_fit { BuiltByFit binary64 count dims grid.now linear vals.now coeffs.old scratch.old result }
-    ensures rectilinear_fitted { RectilinearFitted binary64 count dims grid.now vals.now coeffs.old scratch.old (answer_number result.answer) coeffs.new scratch.new }
+    ensures rectilinear_fitted { RectilinearFitted binary64 count dims grid.now vals.now coeffs.old scratch.old (answer_number result) coeffs.new scratch.new }
 {
     let shape = Shape { count, dims };
-    if let Answer::Refused(refusal) = rectilinear::coefficients(
-        shape, grid, vals, coeffs, scratch,
-    ) {
-        return refused(refusal);
-    }
-    accepted(count, dims, grid, linear)
+    rectilinear::coefficients(shape, grid, vals, coeffs, scratch)?;
+    Ok(accepted(count, dims, grid, linear))
 }

@@ -2,7 +2,6 @@
 // interpn's multibspline::rectilinear.
 #![tactic(auto)]
 
-mod answers;
 mod batch;
 mod blocks;
 mod build;
@@ -13,8 +12,6 @@ mod place;
 mod record;
 mod single;
 
-pub use answers::Placed;
 pub use build::{blank, check_map, no_ghosts};
-pub use evaluation::{Gradient, Valued};
-pub use record::{Built, MultiBsplineRectilinear};
+pub use record::MultiBsplineRectilinear;
 pub use rectilinear_weights::Ghost;

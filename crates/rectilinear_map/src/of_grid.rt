@@ -1,6 +1,8 @@
 // The value at a single query of the map that a grid makes, for a caller that has the grid and no record: the ghost numbers of an
 // axis are worked out only where the query lies at an end of it, and only those of that end.
 ghost use Rattle.std.specs.Prelude.{◌≡◌, ℕ, ◌+◌, ◌*◌, ◌≤◌, ◌<◌, length, take, get_or};
+ghost use Rattle.shape.specs.Refusal.{answer_number, answer_or};
+ghost use Rattle.multibspline.specs.Numbers.{f0};
 ghost use Rattle.std.specs.Float.{binary64, nan};
 ghost use Rattle.shape.specs.Shape.{size};
 ghost use Rattle.shape.specs.Usable.{Usable};
@@ -9,7 +11,6 @@ ghost use Rattle.knots.specs.Joined.{total};
 ghost use Rattle.rectilinear_weights.specs.Ghosts.{low_ghost_coeffs, high_ghost_coeffs};
 ghost use Rattle.evaluation.specs.Axes.{query};
 ghost use Rattle.evaluation.specs.Block.{RowsPut};
-ghost use Rattle.evaluation.specs.Records.{valued_number, valued_value};
 ghost use Rattle.evaluation.specs.Spline.{OneValue};
 ghost use Rattle.evaluation.specs.Entries.{Answered};
 ghost use Rattle.rectilinear_axis.specs.Axis.{place_weights};
@@ -20,7 +21,7 @@ ghost use Rattle.rectilinear_map.specs.Records.{by_knots};
 
 use crate::build::{check_map, no_ghosts};
 use block_sums::put_values;
-use evaluation::{Span, Valued, put_row, strides_of};
+use evaluation::{Span, put_row, strides_of};
 use knots::{axis_knots, loc_of};
 use multibspline::Saturation;
 use rectilinear_basis::basis_span_weights;
@@ -28,7 +29,7 @@ use rectilinear_blocks::{Grid, place_axes};
 use rectilinear_weights::{
     high_boundary_weights, high_ghost_coeffs, low_boundary_weights, low_ghost_coeffs,
 };
-use shape::{Answer, Refusal};
+use shape::Refusal;
 
 // The weights at x, with c knots below it. The ends are asked for by name: a second caller of `interp_weights`, or of
 // `inner_weights`, slows the batches by some percent.
@@ -93,9 +94,9 @@ fn put_weights(
 }
 
 // The value, or that the query has no place: the stages of `value_at`, whatever ghost numbers the record has.
-fn value_by_knots(map: Grid, grid: &[f64], coeffs: &[f64], x: &[f64]) -> Valued
+fn value_by_knots(map: Grid, grid: &[f64], coeffs: &[f64], x: &[f64]) -> Result<f64, Refusal>
     requires { Accepted map grid.now × (length coeffs.now ≡ size (take map.count map.dims)) × (map.count ≤ length x.now) }
-    ensures { Answered (rectilinear binary64 (by_knots map grid.now) grid.now coeffs.now) (query map.count x.now 1 0) (valued_number result) (valued_value result) }
+    ensures { Answered (rectilinear binary64 (by_knots map grid.now) grid.now coeffs.now) (query map.count x.now 1 0) (answer_number result) (answer_or f0 result) }
 {
     let count = map.count;
     let dims = map.dims;
@@ -109,13 +110,13 @@ fn value_by_knots(map: Grid, grid: &[f64], coeffs: &[f64], x: &[f64]) -> Valued
     let mut spots = [0usize; 5];
     let good = place_axes(map, grid, x, s, &mut spots);
     if good < 1 {
-        return Valued::Refused(Refusal::Unrepresentable);
+        return Err(Refusal::Unrepresentable);
     }
     let mut work = [0.0f64; 16];
     put_weights(count, dims, grid, map.linear, x, &spots, &mut work);
     let mut out = [0.0f64; 1];
     put_values(count, &strides, coeffs, &spots, &work, 1, 0, good, &mut out);
-    Valued::Value(out[0])
+    Ok(out[0])
 }
 
 // The value of a single query. The places do not look at ghost numbers, so that they are found with none.
@@ -126,14 +127,12 @@ pub fn value(
     linear: bool,
     coeffs: &[f64],
     x: &[f64],
-) -> Valued
-    ensures { OneValue (rectilinear binary64 (made binary64 count dims grid.now linear) grid.now coeffs.now) x.now (valued_number result) (valued_value result) }
+) -> Result<f64, Refusal>
+    ensures { OneValue (rectilinear binary64 (made binary64 count dims grid.now linear) grid.now coeffs.now) x.now (answer_number result) (answer_or f0 result) }
 {
-    if let Answer::Refused(refusal) = check_map(count, dims, grid, coeffs.len()) {
-        return Valued::Refused(refusal);
-    }
+    check_map(count, dims, grid, coeffs.len())?;
     if x.len() != count {
-        return Valued::Refused(Refusal::DimensionMismatch);
+        return Err(Refusal::DimensionMismatch);
     }
     let strides = strides_of(count, dims);
     let low = no_ghosts();

@@ -1,11 +1,12 @@
 // The record of a rectilinear map. It travels by value; its joined grid and its coefficients are lent beside it, and each
 // call looks at all three anew.
 ghost use Rattle.std.specs.Prelude.{◌≡◌, length};
+ghost use Rattle.multibspline.specs.Numbers.{f0};
+ghost use Rattle.evaluation.specs.Axes.{zeros};
 ghost use Rattle.std.specs.Float.{binary64};
-ghost use Rattle.shape.specs.Refusal.{answer_number};
+ghost use Rattle.shape.specs.Refusal.{answer_number, answer_or};
 ghost use Rattle.shape.specs.Sizes.{stride_of};
 ghost use Rattle.rectilinear.specs.Fit.{RectilinearFitted};
-ghost use Rattle.evaluation.specs.Records.{valued_number, valued_value};
 ghost use Rattle.evaluation.specs.Spline.{OneValue, OneGradient};
 ghost use Rattle.evaluation.specs.Batch.{ValueBatch, GradientBatch};
 ghost use Rattle.rectilinear_map.specs.Map.{made};
@@ -13,11 +14,10 @@ ghost use Rattle.rectilinear_map.specs.Records.{map_of, BuiltAs, BuiltByFit};
 ghost use Rattle.rectilinear_map.specs.Place.{RectilinearPlaced};
 ghost use Rattle.rectilinear_blocks.specs.Eval.{grid_answer, map_answer, rectilinear};
 
-use crate::answers::Placed;
 use crate::{batch, build, eval, of_grid, place};
-use evaluation::{Gradient, Valued};
+use knots::Loc;
 use rectilinear_weights::Ghost;
-use shape::{Answer, Shape};
+use shape::{Refusal, Shape};
 
 // Entries for axes not in use are not looked at; building sets them to zero.
 #[derive(Clone, Copy)]
@@ -32,19 +32,11 @@ pub struct MultiBsplineRectilinear {
     pub linearize_extrapolation: bool,
 }
 
-// The answer of a function that builds a map, and the map: nothing but zeros where it is refused.
-#[derive(Clone, Copy)]
-pub struct Built {
-    pub answer: Answer,
-    pub map: MultiBsplineRectilinear,
-}
-
-// The joined grid is one slice: the knots of axis 0, then those of axis 1, and so on.
 impl MultiBsplineRectilinear {
     // Whether the map is accepted with this grid and these coefficients, or the first of these refusals: 1, 2, 3 for the
     // record's shape; 2, the length of the joined grid; 2, the length of the coefficients; 5, a knot not above the one before
     // it.
-    pub fn check(self, grid: &[f64], coeffs: &[f64]) -> Answer
+    pub fn check(self, grid: &[f64], coeffs: &[f64]) -> Result<(), Refusal>
         ensures { answer_number result ≡ map_answer self.count self.dims grid.now (length coeffs.now) }
     {
         let dims = self.dims;
@@ -66,7 +58,7 @@ impl MultiBsplineRectilinear {
 
     // The place of a coordinate on an axis, or the first of these refusals: 1, 2, 3 for the record's shape; 2, the length of
     // the joined grid; 5, a knot not above the one before it; 7, no such axis. No coordinate is refused.
-    pub fn place(self, grid: &[f64], axis: usize, x: f64) -> Placed
+    pub fn place(self, grid: &[f64], axis: usize, x: f64) -> Result<Loc, Refusal>
         ensures { RectilinearPlaced self.count self.dims grid.now axis x result }
     {
         let dims = self.dims;
@@ -76,22 +68,33 @@ impl MultiBsplineRectilinear {
     // The value at a query of one coordinate an axis, or the first of these refusals: 1, 2, 3 for the record's shape; 2, the
     // length of the joined grid; 2, the length of the coefficients; 5, a knot not above the one before it; 2, the number of
     // coordinates. No coordinate is refused; at a NaN the arithmetic gives what it gives.
-    pub fn interp_one(self, grid: &[f64], coeffs: &[f64], x: &[f64]) -> Valued
-        ensures { OneValue (rectilinear binary64 (map_of self) grid.now coeffs.now) x.now (valued_number result) (valued_value result) }
+    pub fn interp_one(self, grid: &[f64], coeffs: &[f64], x: &[f64]) -> Result<f64, Refusal>
+        ensures { OneValue (rectilinear binary64 (map_of self) grid.now coeffs.now) x.now (answer_number result) (answer_or f0 result) }
     {
         eval::one(self, grid, coeffs, x)
     }
 
     // The gradient at a query, with the refusals of interp_one.
-    pub fn interp_one_grad(self, grid: &[f64], coeffs: &[f64], x: &[f64]) -> Gradient
-        ensures { OneGradient (rectilinear binary64 (map_of self) grid.now coeffs.now) x.now (answer_number result.answer) result.parts }
+    pub fn interp_one_grad(
+        self,
+        grid: &[f64],
+        coeffs: &[f64],
+        x: &[f64],
+    ) -> Result<[f64; 4], Refusal>
+        ensures { OneGradient (rectilinear binary64 (map_of self) grid.now coeffs.now) x.now (answer_number result) (answer_or zeros result) }
     {
         eval::one_grad(self, grid, coeffs, x)
     }
 
     // Values at a batch of queries, axis after axis: `out.len()` coordinates of axis 0, then those of axis 1, and so on. The
     // refusals of interp_one, 2 where the numbers of coordinates and outputs disagree. A refusal leaves `out` as it was.
-    pub fn interp(self, grid: &[f64], coeffs: &[f64], x: &[f64], out: &mut [f64]) -> Answer
+    pub fn interp(
+        self,
+        grid: &[f64],
+        coeffs: &[f64],
+        x: &[f64],
+        out: &mut [f64],
+    ) -> Result<(), Refusal>
         ensures { ValueBatch (rectilinear binary64 (map_of self) grid.now coeffs.now) x.now out.old (answer_number result) out.new }
     {
         batch::values(self, grid, coeffs, x, out)
@@ -99,7 +102,13 @@ impl MultiBsplineRectilinear {
 
     // Gradients at a batch of queries, both axis after axis: of n entries, part k of entry i at k n + i. As `interp`; 2 also
     // where the length of `out` is no multiple of the axis count.
-    pub fn interp_grad(self, grid: &[f64], coeffs: &[f64], x: &[f64], out: &mut [f64]) -> Answer
+    pub fn interp_grad(
+        self,
+        grid: &[f64],
+        coeffs: &[f64],
+        x: &[f64],
+        out: &mut [f64],
+    ) -> Result<(), Refusal>
         ensures { GradientBatch (rectilinear binary64 (map_of self) grid.now coeffs.now) x.now out.old (answer_number result) out.new }
     {
         batch::gradients(self, grid, coeffs, x, out)
@@ -107,7 +116,12 @@ impl MultiBsplineRectilinear {
 
     // A map from its coefficients, or the first of these refusals: 1, 2, 3 for the shape; 2, the length of the joined grid;
     // 2, the length of `coeffs`; 5, a knot not above the one before it.
-    pub fn new(shape: Shape, grid: &[f64], coeffs: &[f64], linearize_extrapolation: bool) -> Built
+    pub fn new(
+        shape: Shape,
+        grid: &[f64],
+        coeffs: &[f64],
+        linearize_extrapolation: bool,
+    ) -> Result<MultiBsplineRectilinear, Refusal>
         ensures { BuiltAs binary64 (map_answer shape.count shape.dims grid.now (length coeffs.now)) shape.count shape.dims grid.now linearize_extrapolation result }
     {
         let dims = shape.dims;
@@ -122,7 +136,11 @@ impl MultiBsplineRectilinear {
 
     // A map from its grid, for a caller that builds it anew for each call that evaluates it: that call looks at the knots
     // and the coefficients, so that they are looked at once. 1, 2, 3 for the shape; 2, the length of the joined grid.
-    pub fn of_grid(shape: Shape, grid: &[f64], linearize_extrapolation: bool) -> Built
+    pub fn of_grid(
+        shape: Shape,
+        grid: &[f64],
+        linearize_extrapolation: bool,
+    ) -> Result<MultiBsplineRectilinear, Refusal>
         ensures { BuiltAs binary64 (grid_answer shape.count shape.dims grid.now) shape.count shape.dims grid.now linearize_extrapolation result }
     {
         let dims = shape.dims;
@@ -137,8 +155,8 @@ impl MultiBsplineRectilinear {
         coeffs: &[f64],
         linear: bool,
         x: &[f64],
-    ) -> Valued
-        ensures { OneValue (rectilinear binary64 (made binary64 shape.count shape.dims grid.now linear) grid.now coeffs.now) x.now (valued_number result) (valued_value result) }
+    ) -> Result<f64, Refusal>
+        ensures { OneValue (rectilinear binary64 (made binary64 shape.count shape.dims grid.now linear) grid.now coeffs.now) x.now (answer_number result) (answer_or f0 result) }
     {
         let dims = shape.dims;
         of_grid::value(shape.count, dims, grid, linear, coeffs, x)
@@ -153,9 +171,9 @@ impl MultiBsplineRectilinear {
         coeffs: &mut [f64],
         scratch: &mut [f64],
         linearize_extrapolation: bool,
-    ) -> Built
+    ) -> Result<MultiBsplineRectilinear, Refusal>
         ensures built_by_fit { BuiltByFit binary64 shape.count shape.dims grid.now linearize_extrapolation vals.now coeffs.old scratch.old result }
-        ensures rectilinear_fitted { RectilinearFitted binary64 shape.count shape.dims grid.now vals.now coeffs.old scratch.old (answer_number result.answer) coeffs.new scratch.new }
+        ensures rectilinear_fitted { RectilinearFitted binary64 shape.count shape.dims grid.now vals.now coeffs.old scratch.old (answer_number result) coeffs.new scratch.new }
     {
         let dims = shape.dims;
         build::from_values(

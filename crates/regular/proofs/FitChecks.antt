@@ -1,22 +1,20 @@
 -- The checks of a regular fit, outcome by outcome. Assumes nothing.
-use mathlib.Core.Path.{◌≡◌, sym, ap, ◌∙◌}
+use mathlib.Core.Path.{◌≡◌, sym, ◌∙◌}
 use mathlib.Core.List.{List, [], ◌++◌}
 use Prim.Native.Nat.{ℕ, ◌≤◌, ◌<◌}
 use lib.ListN.{take}
 use Rattle.shape.specs.Shape.{size}
 use Rattle.shape.specs.Checks.{first_refusal, shape_checks, length_check, scratch_check, regular_fit_checks}
-use Rattle.shape.specs.Refusal.{refusal_number, answer_number}
+use Rattle.shape.specs.Refusal.{refusal_number}
 use Rattle.shape.specs.Sizes.{coeff_storage_len, construction_scratch_len}
 use Rattle.shape.specs.declared.answers.Refusal.{Refusal}
-use Rattle.shape.specs.declared.answers.Answer.{Answer}
-use Rattle.shape.specs.declared.answers.Answer.TheVariants.{Refused}
 use Rattle.shape.proofs.Accepted.{refusal-append, accepted-append, storage-is, scratch-is}
 use Rattle.shape.proofs.Checks.{length-fails, length-passes, scratch-fails, scratch-passes}
 
 module _ (count : ℕ) (lens : List ℕ) (samples coefs scratch : ℕ) where
-  pub fit-shape : {x : Answer} {r : Refusal} → x ≡ Refused r → answer_number x ≡ first_refusal (shape_checks count lens) → refusal_number r ≡ first_refusal (regular_fit_checks count lens samples coefs scratch)
+  pub fit-shape : (r : Refusal) → refusal_number r ≡ first_refusal (shape_checks count lens) → refusal_number r ≡ first_refusal (regular_fit_checks count lens samples coefs scratch)
   unfolding regular_fit_checks
-  fit-shape {x} {r} told e = refusal-append r (shape_checks count lens) _ (sym (ap answer_number told) ∙ e)
+  fit-shape r e = refusal-append r (shape_checks count lens) _ e
 
   -- once the shape has passed
   module _ (ok : first_refusal (shape_checks count lens) ≡ 0) where

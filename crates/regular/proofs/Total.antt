@@ -1,5 +1,5 @@
 -- Demand 1 for the regular fit, and what an accepted one may take for granted. Assumes nothing.
-use mathlib.Core.Path.{◌≡◌, sym, ap, ◌∙◌}
+use mathlib.Core.Path.{◌≡◌, sym}
 use mathlib.Core.List.{List}
 use Prim.Native.Nat.{ℕ, ◌*◌, ◌≤◌}
 use native.Mathlib.Omega.{arith}
@@ -7,9 +7,6 @@ use lib.ListN.{length, take}
 use Rattle.shape.specs.Shape.{longest, size}
 use Rattle.shape.specs.Checks.{first_refusal, regular_fit_checks, Positive}
 use Rattle.shape.specs.Usable.{Usable}
-use Rattle.shape.specs.Refusal.{answer_number}
-use Rattle.shape.specs.declared.answers.Answer.{Answer}
-use Rattle.shape.specs.declared.answers.Answer.TheVariants.{Accepted}
 use Rattle.shape.proofs.Outcome.{Tests, none, total, all_hold, shape-test, length-test, scratch-test}
 use Rattle.regular.specs.Total.{fit_conditions, FitTotal}
 
@@ -42,8 +39,8 @@ module _ (count : ℕ) (lens : List ℕ) (samples coefs scratch : ℕ) where
       }
 
   -- by the answer of the checks
-  pub fit-range : {x : Answer} → x ≡ Accepted → answer_number x ≡ first_refusal (regular_fit_checks count lens samples coefs scratch) → length lens ≡ 4 → InRange count lens samples coefs scratch
-  fit-range told e four = in-range four (sym e ∙ ap answer_number told)
+  pub fit-range : ◌≡◌ {A = ℕ} 0 (first_refusal (regular_fit_checks count lens samples coefs scratch)) → length lens ≡ 4 → InRange count lens samples coefs scratch
+  fit-range e four = in-range four (sym e)
 
 pub fit-total : FitTotal
 fit-total count lens samples coefs scratch four = total (fit-tests count lens samples coefs scratch four)

@@ -14,26 +14,23 @@ use lanes::keep_line;
 use multibspline::copy;
 use regular_lines::solve_checked;
 use regular_sweeps::{solve_ends, solve_slabs, upper_numbers};
-use shape::inner::first_cell_of;
-use shape::{Answer, Refusal, Shape};
+use shape::{Refusal, Shape, first_cell_of};
 
 // The checks of a fit, from the lengths of its buffers.
-fn check_fit(shape: Shape, vals: usize, coeffs: usize, scratch: usize) -> Answer
+fn check_fit(shape: Shape, vals: usize, coeffs: usize, scratch: usize) -> Result<(), Refusal>
     ensures { answer_number result ≡ first_refusal (regular_fit_checks shape.count shape.dims vals coeffs scratch) }
 {
-    if let Answer::Refused(refusal) = shape.check() {
-        return Answer::Refused(refusal);
-    }
+    shape.check()?;
     if coeffs != shape.coeff_storage_len() {
-        return Answer::Refused(Refusal::DimensionMismatch);
+        return Err(Refusal::DimensionMismatch);
     }
     if vals != shape.coeff_storage_len() {
-        return Answer::Refused(Refusal::DimensionMismatch);
+        return Err(Refusal::DimensionMismatch);
     }
     if scratch < shape.construction_scratch_len() {
-        return Answer::Refused(Refusal::ScratchTooSmall);
+        return Err(Refusal::ScratchTooSmall);
     }
-    Answer::Accepted
+    Ok(())
 }
 
 // Line l of an axis of n points that are s apart; m is the length of the longest axis.
@@ -126,7 +123,12 @@ fn solve_axes(count: usize, dims: [usize; 4], coeffs: &mut [f64], scratch: &mut 
 // whatever it holds. Answers the first of these refusals, with `coeffs` and `scratch` untouched: 1, the axis count is not
 // 1 to 4; 2, an axis has fewer than 4 points; 3, more than 16,777,216 points; 2, the length of `coeffs`; 2, the length of
 // `vals`; 4, the length of `scratch`.
-pub fn coefficients(shape: Shape, vals: &[f64], coeffs: &mut [f64], scratch: &mut [f64]) -> Answer
+pub fn coefficients(
+    shape: Shape,
+    vals: &[f64],
+    coeffs: &mut [f64],
+    scratch: &mut [f64],
+) -> Result<(), Refusal>
     ensures { RegularFitted binary64 shape.count shape.dims vals.now coeffs.old scratch.old (answer_number result) coeffs.new scratch.new }
 {
     let count = shape.count;
@@ -140,14 +142,12 @@ fn fit(
     vals: &[f64],
     coeffs: &mut [f64],
     scratch: &mut [f64],
-) -> Answer
+) -> Result<(), Refusal>
     ensures { RegularFitted binary64 count dims vals.now coeffs.old scratch.old (answer_number result) coeffs.new scratch.new }
 {
     let shape = Shape { count, dims };
-    if let Answer::Refused(refusal) = check_fit(shape, vals.len(), coeffs.len(), scratch.len()) {
-        return Answer::Refused(refusal);
-    }
+    check_fit(shape, vals.len(), coeffs.len(), scratch.len())?;
     copy(vals, coeffs);
     solve_axes(count, dims, coeffs, scratch);
-    Answer::Accepted
+    Ok(())
 }

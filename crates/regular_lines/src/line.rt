@@ -13,7 +13,7 @@ ghost use Rattle.regular_lines.specs.Rows.{first_row, inner_row, last_row, reduc
 ghost use Rattle.regular_lines.specs.Line.{LineSolved};
 
 use multibspline::{Reduced, back_substitute, check_line, eliminate, entry, keep_row};
-use shape::Answer;
+use shape::Refusal;
 
 // Row 0, which is reduced as it stands.
 fn first_row(base: usize, stride: usize, n: usize, coeffs: &[f64]) -> Reduced
@@ -133,19 +133,10 @@ pub fn solve_line(
     longest: usize,
     coeffs: &mut [f64],
     scratch: &mut [f64],
-) -> Answer
+) -> Result<(), Refusal>
     ensures { LineSolved binary64 base stride n longest coeffs.old scratch.old (answer_number result) coeffs.new scratch.new }
 {
-    if let Answer::Refused(refusal) = check_line(
-        base,
-        stride,
-        n,
-        longest,
-        coeffs.len(),
-        scratch.len(),
-    ) {
-        return Answer::Refused(refusal);
-    }
+    check_line(base, stride, n, longest, coeffs.len(), scratch.len())?;
     solve_checked(base, stride, n, longest, coeffs, scratch);
-    Answer::Accepted
+    Ok(())
 }

@@ -12,11 +12,9 @@ use lib.Ieee.{Float, nan, lt}
 use borrow.Author.Tests.{eq-eqb, ne_eqb, eqb-true}
 use Rattle.shape.specs.Shape.{size}
 use Rattle.shape.specs.Checks.{refuse, first_refusal, shape_checks, length_check, Positive}
-use Rattle.shape.specs.Refusal.{refusal_number, answer_number}
+use Rattle.shape.specs.Refusal.{refusal_number}
 use Rattle.shape.specs.Usable.{Usable}
 use Rattle.shape.specs.declared.answers.Refusal.{Refusal}
-use Rattle.shape.specs.declared.answers.Answer.{Answer}
-use Rattle.shape.specs.declared.answers.Answer.TheVariants.{Accepted, Refused}
 use Rattle.shape.proofs.Accepted.{refusal-append, accepted-append, prefix-passed, usable}
 use Rattle.multibspline.specs.Numbers.{f0}
 use Rattle.regular_blocks.specs.Checks.{any_step_bad, map_checks, map_answer}
@@ -33,9 +31,9 @@ module _ (steps : List Float) (k i : ℕ) (h : k ≤ length steps) where
 
 -- the checks of a record, outcome by outcome
 module _ (count : ℕ) (lens : List ℕ) (steps : List Float) (coefs : ℕ) where
-  pub map-shape : {x : Answer} {r : Refusal} → x ≡ Refused r → answer_number x ≡ first_refusal (shape_checks count lens) → refusal_number r ≡ map_answer count lens steps coefs
+  pub map-shape : (r : Refusal) → refusal_number r ≡ first_refusal (shape_checks count lens) → refusal_number r ≡ map_answer count lens steps coefs
   unfolding map_answer
-  map-shape {x} {r} told e = refusal-append r (shape_checks count lens) _ (sym (ap answer_number told) ∙ e)
+  map-shape r e = refusal-append r (shape_checks count lens) _ e
 
   module _ (ok : first_refusal (shape_checks count lens) ≡ 0) where
     after : map_answer count lens steps coefs ≡ first_refusal (length_check (size (take count lens)) coefs ++ refuse 5 (any_step_bad (take count steps)) ∷ [])
@@ -57,10 +55,10 @@ module _ (count : ℕ) (lens : List ℕ) (steps : List Float) (coefs : ℕ) wher
   pub map-numbered : Positive (map_checks count lens steps coefs)
   map-numbered = (omega arith, (omega arith, (omega arith, (omega arith, (omega arith, tt)))))
 
-  module _ {x : Answer} (told : x ≡ Accepted) (e : answer_number x ≡ map_answer count lens steps coefs) where
+  module _ (e : ◌≡◌ {A = ℕ} 0 (map_answer count lens steps coefs)) where
     passes : first_refusal (map_checks count lens steps coefs) ≡ 0
     unfolding map_answer
-    passes = sym e ∙ ap answer_number told
+    passes = sym e
 
     shape-passed : first_refusal (shape_checks count lens) ≡ 0
     shape-passed = prefix-passed (shape_checks count lens) (length_check (size (take count lens)) coefs ++ refuse 5 (any_step_bad (take count steps)) ∷ []) passes

@@ -19,7 +19,6 @@ use Rattle.shape.proofs.Outcome.{Tests, none, test, total, append, shape-test, l
 use Rattle.multibspline.specs.Numbers.{f0}
 use Rattle.regular.proofs.Total.{fit-tests}
 use Rattle.regular_weights.specs.declared.place.Loc.{Loc}
-use Rattle.regular_weights.specs.declared.place.Loc.TheVariants as Loc
 use Rattle.evaluation.specs.ByAxis.{refuses}
 use Rattle.evaluation.proofs.Total.{evaluation-total}
 use Rattle.evaluation.proofs.Placing.{axis-test}

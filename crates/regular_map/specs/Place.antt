@@ -1,7 +1,9 @@
 -- The place of a coordinate x on axis a of a regular map, and what `place` answers. Assumes nothing.
-use Rattle.std.specs.Prelude.{List, [], ◌∷◌, ◌++◌, ℕ, take, get_or, Float}
+use Rattle.std.specs.Prelude.{Result, Ok, Err, List, [], ◌∷◌, ◌++◌, ℕ, take, get_or, Float}
 use Rattle.std.specs.Float.{Format, nan}
-use Rattle.shape.specs.Refusal.{refusal_number}
+use Rattle.shape.specs.Refusal.{answer_number}
+use Rattle.shape.specs.declared.answers.Refusal.{Refusal}
+use Rattle.multibspline.specs.declared.saturation.Saturation.{Saturation}
 use Rattle.shape.specs.Checks.{Check, refuse, shape_checks}
 use Rattle.regular_weights.specs.Place.{get_loc}
 use Rattle.regular_weights.specs.declared.place.Loc.{Loc}
@@ -9,8 +11,6 @@ use Rattle.regular_weights.specs.declared.place.Loc.TheVariants.{At, Unrepresent
 use Rattle.evaluation.specs.Place.{place_checks, PlaceFound}
 use Rattle.regular_blocks.specs.Checks.{any_step_bad}
 use Rattle.regular_blocks.specs.Eval.{is_unrepresentable}
-use Rattle.regular_map.specs.declared.answers.Placed.{Placed}
-use Rattle.regular_map.specs.declared.answers.Placed.TheVariants as Placed
 
 -- the place, by the points, the start and the step of the axis
 abbrev pub loc_at : Format → List ℕ → List Float → List Float → ℕ → Float → Loc
@@ -20,18 +20,14 @@ loc_at f lens starts steps a x = get_loc f (get_or lens a 0) (get_or starts a na
 abbrev pub record_checks : ℕ → List ℕ → List Float → List Check
 record_checks count lens steps = shape_checks count lens ++ refuse 5 (any_step_bad (take count steps)) ∷ []
 
--- ---- the answer: its number, and the place; a refused call has none
+-- ---- the answer: the place, its saturation and its origin; a refused call has none
 
-abbrev pub placed_number : Placed → ℕ
-placed_number (Placed.At sat origin) = 0
-placed_number (Placed.Refused refusal) = refusal_number refusal
-
-abbrev pub placed_loc : Placed → Loc
-placed_loc (Placed.At sat origin) = At sat origin
-placed_loc (Placed.Refused refusal) = Unrepresentable
+abbrev pub placed_loc : Result (Saturation × ℕ) Refusal → Loc
+placed_loc (Ok place) = At place.0 place.1
+placed_loc (Err refusal) = Unrepresentable
 
 abbrev pub regular_place_checks : Format → ℕ → List ℕ → List Float → List Float → ℕ → Float → List Check
 regular_place_checks f count lens starts steps a x = place_checks (record_checks count lens steps) count a (refuse 6 (is_unrepresentable (loc_at f lens starts steps a x)) ∷ [])
 
-abbrev pub RegularPlaced : Format → ℕ → List ℕ → List Float → List Float → ℕ → Float → Placed → Type 0
-RegularPlaced f count lens starts steps a x r = PlaceFound (regular_place_checks f count lens starts steps a x) (loc_at f lens starts steps a x) Unrepresentable (placed_number r) (placed_loc r)
+abbrev pub RegularPlaced : Format → ℕ → List ℕ → List Float → List Float → ℕ → Float → Result (Saturation × ℕ) Refusal → Type 0
+RegularPlaced f count lens starts steps a x r = PlaceFound (regular_place_checks f count lens starts steps a x) (loc_at f lens starts steps a x) Unrepresentable (answer_number r) (placed_loc r)

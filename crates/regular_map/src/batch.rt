@@ -10,39 +10,45 @@ use crate::blocks::{put_gradients, put_values};
 use crate::build::check_map;
 use crate::grid::grid_of;
 use crate::record::MultiBsplineRegular;
-use shape::{Answer, Refusal};
+use shape::Refusal;
 
 // Values at a batch of queries.
-pub fn values(map: MultiBsplineRegular, coeffs: &[f64], xs: &[f64], out: &mut [f64]) -> Answer
+pub fn values(
+    map: MultiBsplineRegular,
+    coeffs: &[f64],
+    xs: &[f64],
+    out: &mut [f64],
+) -> Result<(), Refusal>
     ensures { ValueBatch (regular binary64 (map_of map) coeffs.now) xs.now out.old (answer_number result) out.new }
 {
     let dims = map.dims;
     let steps = map.steps;
-    if let Answer::Refused(refusal) = check_map(map.count, dims, steps, coeffs.len()) {
-        return Answer::Refused(refusal);
-    }
+    check_map(map.count, dims, steps, coeffs.len())?;
     let n = out.len();
     if xs.len() != map.count * n {
-        return Answer::Refused(Refusal::DimensionMismatch);
+        return Err(Refusal::DimensionMismatch);
     }
     put_values(grid_of(map), coeffs, xs, n, out)
 }
 
 // Gradients at a batch of queries.
-pub fn gradients(map: MultiBsplineRegular, coeffs: &[f64], xs: &[f64], out: &mut [f64]) -> Answer
+pub fn gradients(
+    map: MultiBsplineRegular,
+    coeffs: &[f64],
+    xs: &[f64],
+    out: &mut [f64],
+) -> Result<(), Refusal>
     ensures { GradientBatch (regular binary64 (map_of map) coeffs.now) xs.now out.old (answer_number result) out.new }
 {
     let dims = map.dims;
     let steps = map.steps;
     let count = map.count;
-    if let Answer::Refused(refusal) = check_map(count, dims, steps, coeffs.len()) {
-        return Answer::Refused(refusal);
-    }
+    check_map(count, dims, steps, coeffs.len())?;
     if out.len() % count != 0 {
-        return Answer::Refused(Refusal::DimensionMismatch);
+        return Err(Refusal::DimensionMismatch);
     }
     if xs.len() != out.len() {
-        return Answer::Refused(Refusal::DimensionMismatch);
+        return Err(Refusal::DimensionMismatch);
     }
     let n = out.len() / count;
     put_gradients(grid_of(map), coeffs, xs, n, out)

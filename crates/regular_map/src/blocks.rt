@@ -11,7 +11,7 @@ ghost use Rattle.regular_blocks.specs.Records.{map_of, Accepted};
 
 use evaluation::{Span, block_size};
 use regular_blocks::{Grid, gradients_block, values_block};
-use shape::{Answer, Refusal};
+use shape::Refusal;
 
 fn value_blocks(
     grid: Grid,
@@ -21,7 +21,7 @@ fn value_blocks(
     spots: &mut [usize],
     work: &mut [f64],
     out: &mut [f64],
-) -> Answer
+) -> Result<(), Refusal>
     requires accepted { Accepted grid × (length coeffs.now ≡ size (take grid.count grid.dims)) }
     requires n_in_bounds { (grid.count * n ≤ length xs.now) × (n ≤ length out.old) × (160 ≤ length spots.old) × (512 ≤ length work.old) }
     ensures { Entries (bad_at (regular binary64 (map_of grid) coeffs.now) xs.now n)
@@ -39,15 +39,21 @@ fn value_blocks(
         };
         let valued = values_block(grid, coeffs, xs, s, spots, work, out);
         if valued < m {
-            return Answer::Refused(Refusal::Unrepresentable);
+            return Err(Refusal::Unrepresentable);
         }
         from += m;
     }
-    Answer::Accepted
+    Ok(())
 }
 
 // The values of n queries, up to the first that is refused.
-pub fn put_values(grid: Grid, coeffs: &[f64], xs: &[f64], n: usize, out: &mut [f64]) -> Answer
+pub fn put_values(
+    grid: Grid,
+    coeffs: &[f64],
+    xs: &[f64],
+    n: usize,
+    out: &mut [f64],
+) -> Result<(), Refusal>
     requires { Accepted grid × (length coeffs.now ≡ size (take grid.count grid.dims)) × (grid.count * n ≤ length xs.now) × (n ≤ length out.old) }
     ensures { Entries (bad_at (regular binary64 (map_of grid) coeffs.now) xs.now n)
         (value_step (regular binary64 (map_of grid) coeffs.now) xs.now n) n out.old
@@ -66,7 +72,7 @@ fn gradient_blocks(
     spots: &mut [usize],
     work: &mut [f64],
     out: &mut [f64],
-) -> Answer
+) -> Result<(), Refusal>
     requires accepted { Accepted grid × (length coeffs.now ≡ size (take grid.count grid.dims)) }
     requires n_in_bounds { (grid.count * n ≤ length xs.now) × (grid.count * n ≤ length out.old) × (160 ≤ length spots.old) × (1024 ≤ length work.old) }
     ensures { Entries (bad_at (regular binary64 (map_of grid) coeffs.now) xs.now n)
@@ -84,15 +90,21 @@ fn gradient_blocks(
         };
         let good = gradients_block(grid, coeffs, xs, s, spots, work, out);
         if good < m {
-            return Answer::Refused(Refusal::Unrepresentable);
+            return Err(Refusal::Unrepresentable);
         }
         from += m;
     }
-    Answer::Accepted
+    Ok(())
 }
 
 // The gradients of n queries, up to the first that is refused.
-pub fn put_gradients(grid: Grid, coeffs: &[f64], xs: &[f64], n: usize, out: &mut [f64]) -> Answer
+pub fn put_gradients(
+    grid: Grid,
+    coeffs: &[f64],
+    xs: &[f64],
+    n: usize,
+    out: &mut [f64],
+) -> Result<(), Refusal>
     requires { Accepted grid × (length coeffs.now ≡ size (take grid.count grid.dims)) × (grid.count * n ≤ length xs.now) × (grid.count * n ≤ length out.old) }
     ensures { Entries (bad_at (regular binary64 (map_of grid) coeffs.now) xs.now n)
         (gradient_step (regular binary64 (map_of grid) coeffs.now) xs.now n) n out.old

@@ -8,9 +8,9 @@ ghost use Rattle.regular_map.specs.Records.{map_of};
 ghost use Rattle.shape.specs.Refusal.{answer_number, refusal_number};
 ghost use Rattle.regular_blocks.specs.Checks.{any_step_bad, map_answer, from_values_answer};
 
-use crate::record::{Built, MultiBsplineRegular};
+use crate::record::MultiBsplineRegular;
 use evaluation::{points_by_stride, used_floats, used_lens};
-use shape::{Answer, Refusal, Shape};
+use shape::{Refusal, Shape};
 
 // Whether one of the first `count` steps is not above zero. A NaN is not.
 fn any_step_bad(steps: [f64; 4], count: usize) -> bool
@@ -28,20 +28,23 @@ fn any_step_bad(steps: [f64; 4], count: usize) -> bool
 }
 
 // The checks of a record: its shape, which is looked at once, the length of its coefficients, its steps.
-pub fn check_map(count: usize, dims: [usize; 4], steps: [f64; 4], coeffs: usize) -> Answer
+pub fn check_map(
+    count: usize,
+    dims: [usize; 4],
+    steps: [f64; 4],
+    coeffs: usize,
+) -> Result<(), Refusal>
     ensures { answer_number result ≡ map_answer count dims steps coeffs }
 {
     let shape = Shape { count, dims };
-    if let Answer::Refused(refusal) = shape.check() {
-        return Answer::Refused(refusal);
-    }
+    shape.check()?;
     if coeffs != points_by_stride(count, dims) {
-        return Answer::Refused(Refusal::DimensionMismatch);
+        return Err(Refusal::DimensionMismatch);
     }
     if any_step_bad(steps, count) {
-        return Answer::Refused(Refusal::NotIncreasing);
+        return Err(Refusal::NotIncreasing);
     }
-    Answer::Accepted
+    Ok(())
 }
 
 // Nothing but zeros.
@@ -60,16 +63,6 @@ pub fn blank() -> MultiBsplineRegular
     }
 }
 
-fn refused(refusal: Refusal) -> Built
-    ensures { (answer_number result.answer ≡ refusal_number refusal) × (map_of result.map ≡ blank) }
-{
-    let map = blank();
-    Built {
-        answer: Answer::Refused(refusal),
-        map: map,
-    }
-}
-
 // An accepted map: entries of axes not in use are zero.
 fn accepted(
     count: usize,
@@ -77,22 +70,15 @@ fn accepted(
     starts: [f64; 4],
     steps: [f64; 4],
     linear: bool,
-) -> Built
-    ensures { (answer_number result.answer ≡ 0) × (map_of result.map ≡ made count dims starts steps linear) }
+) -> MultiBsplineRegular
+    ensures { map_of result ≡ made count dims starts steps linear }
 {
-    let dims = used_lens(count, dims);
-    let starts = used_floats(count, starts);
-    let steps = used_floats(count, steps);
-    let map = MultiBsplineRegular {
-        count: count,
-        dims: dims,
-        starts: starts,
-        steps: steps,
+    MultiBsplineRegular {
+        count,
+        dims: used_lens(count, dims),
+        starts: used_floats(count, starts),
+        steps: used_floats(count, steps),
         linearize_extrapolation: linear,
-    };
-    Built {
-        answer: Answer::Accepted,
-        map: map,
     }
 }
 
@@ -103,13 +89,11 @@ pub fn build(
     steps: [f64; 4],
     linear: bool,
     coeffs: usize,
-) -> Built
-    ensures { RegularBuilt (map_answer count dims steps coeffs) count dims starts steps linear (answer_number result.answer) (map_of result.map) }
+) -> Result<MultiBsplineRegular, Refusal>
+    ensures { RegularBuilt (map_answer count dims steps coeffs) count dims starts steps linear result }
 {
-    if let Answer::Refused(refusal) = check_map(count, dims, steps, coeffs) {
-        return refused(refusal);
-    }
-    accepted(count, dims, starts, steps, linear)
+    check_map(count, dims, steps, coeffs)?;
+    Ok(accepted(count, dims, starts, steps, linear))
 }
 
 pub fn from_values(
@@ -121,13 +105,11 @@ pub fn from_values(
     vals: &[f64],
     coeffs: &mut [f64],
     scratch: &mut [f64],
-) -> Built
-    ensures regular_built { RegularBuilt (from_values_answer count dims steps (length vals.now) (length coeffs.old) (length scratch.old)) count dims starts steps linear (answer_number result.answer) (map_of result.map) }
+) -> Result<MultiBsplineRegular, Refusal>
+    ensures regular_built { RegularBuilt (from_values_answer count dims steps (length vals.now) (length coeffs.old) (length scratch.old)) count dims starts steps linear result }
     ensures regular_fit_leaves { RegularFitLeaves binary64 count dims vals.now coeffs.old scratch.old coeffs.new scratch.new }
 {
     let shape = Shape { count, dims };
-    if let Answer::Refused(refusal) = regular::coefficients(shape, vals, coeffs, scratch) {
-        return refused(refusal);
-    }
+    regular::coefficients(shape, vals, coeffs, scratch)?;
     build(count, dims, starts, steps, linear, coeffs.len())
 }

@@ -2,7 +2,6 @@
 // multibspline::regular.
 #![tactic(auto)]
 
-mod answers;
 mod batch;
 mod blocks;
 mod build;
@@ -13,7 +12,5 @@ mod record;
 mod seat;
 mod single;
 
-pub use answers::Placed;
 pub use build::{blank, check_map};
-pub use evaluation::{Gradient, Valued};
-pub use record::{Built, MultiBsplineRegular};
+pub use record::MultiBsplineRegular;

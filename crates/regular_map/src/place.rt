@@ -2,10 +2,10 @@
 ghost use Rattle.std.specs.Float.{binary64};
 ghost use Rattle.regular_map.specs.Place.{RegularPlaced};
 
-use crate::answers::Placed;
 use crate::build::check_map;
+use multibspline::Saturation;
 use regular_weights::{Loc, get_loc};
-use shape::{Answer, Refusal, Shape};
+use shape::{Refusal, Shape};
 
 // The record is checked as `check` does, for as many coefficients as its shape wants.
 pub fn place(
@@ -15,18 +15,16 @@ pub fn place(
     steps: [f64; 4],
     axis: usize,
     x: f64,
-) -> Placed
+) -> Result<(Saturation, usize), Refusal>
     ensures { RegularPlaced binary64 count dims starts steps axis x result }
 {
     let shape = Shape { count, dims };
-    if let Answer::Refused(refusal) = check_map(count, dims, steps, shape.coeff_storage_len()) {
-        return Placed::Refused(refusal);
-    }
+    check_map(count, dims, steps, shape.coeff_storage_len())?;
     if count <= axis {
-        return Placed::Refused(Refusal::NoSuchLine);
+        return Err(Refusal::NoSuchLine);
     }
     match get_loc(dims[axis], starts[axis], steps[axis], x) {
-        Loc::At(sat, origin) => Placed::At(sat, origin),
-        Loc::Unrepresentable => Placed::Refused(Refusal::Unrepresentable),
+        Loc::At(sat, origin) => Ok((sat, origin)),
+        Loc::Unrepresentable => Err(Refusal::Unrepresentable),
     }
 }

@@ -1,10 +1,11 @@
 // The record of a regular map. It travels by value; its coefficients are lent beside it, and each call looks at it anew.
 ghost use Rattle.std.specs.Prelude.{◌≡◌, length};
+ghost use Rattle.multibspline.specs.Numbers.{f0};
+ghost use Rattle.evaluation.specs.Axes.{zeros};
 ghost use Rattle.std.specs.Float.{binary64};
-ghost use Rattle.shape.specs.Refusal.{answer_number};
+ghost use Rattle.shape.specs.Refusal.{answer_number, answer_or};
 ghost use Rattle.shape.specs.Sizes.{stride_of};
 ghost use Rattle.regular.specs.Fit.{RegularFitLeaves};
-ghost use Rattle.evaluation.specs.Records.{valued_number, valued_value};
 ghost use Rattle.evaluation.specs.Spline.{OneValue, OneGradient};
 ghost use Rattle.evaluation.specs.Batch.{ValueBatch, GradientBatch};
 ghost use Rattle.regular_map.specs.Map.{RegularBuilt};
@@ -12,10 +13,9 @@ ghost use Rattle.regular_map.specs.Records.{map_of};
 ghost use Rattle.regular_map.specs.Place.{RegularPlaced};
 ghost use Rattle.regular_blocks.specs.Checks.{map_answer, from_values_answer, regular};
 
-use crate::answers::Placed;
 use crate::{batch, build, eval, place};
-use evaluation::{Gradient, Valued};
-use shape::{Answer, Shape};
+use multibspline::Saturation;
+use shape::{Refusal, Shape};
 
 // Entries for axes not in use are not looked at; building sets them to zero.
 #[derive(Clone, Copy)]
@@ -30,17 +30,10 @@ pub struct MultiBsplineRegular {
     pub linearize_extrapolation: bool,
 }
 
-// The answer of a function that builds a map, and the map: nothing but zeros where it is refused.
-#[derive(Clone, Copy)]
-pub struct Built {
-    pub answer: Answer,
-    pub map: MultiBsplineRegular,
-}
-
 impl MultiBsplineRegular {
     // Whether the map is accepted with these coefficients, or the first of these refusals: 1, 2, 3 for the record's shape; 2,
     // the length of the coefficients; 5, a step not above zero.
-    pub fn check(self, coeffs: &[f64]) -> Answer
+    pub fn check(self, coeffs: &[f64]) -> Result<(), Refusal>
         ensures { answer_number result ≡ map_answer self.count self.dims self.steps (length coeffs.now) }
     {
         let dims = self.dims;
@@ -63,7 +56,7 @@ impl MultiBsplineRegular {
 
     // The place of a coordinate on an axis, or the first of these refusals: 1, 2, 3 for the record's shape; 5, a step not
     // above zero; 7, no such axis; 6, a cell that cannot be represented.
-    pub fn place(self, axis: usize, x: f64) -> Placed
+    pub fn place(self, axis: usize, x: f64) -> Result<(Saturation, usize), Refusal>
         ensures { RegularPlaced binary64 self.count self.dims self.starts self.steps axis x result }
     {
         let dims = self.dims;
@@ -75,15 +68,15 @@ impl MultiBsplineRegular {
     // The value at a query of one coordinate an axis, or the first of these refusals: 1, 2, 3 for the record's shape; 2, the
     // length of the coefficients; 5, a step not above zero; 2, the number of coordinates; 6, a coordinate whose cell cannot
     // be represented.
-    pub fn interp_one(self, coeffs: &[f64], x: &[f64]) -> Valued
-        ensures { OneValue (regular binary64 (map_of self) coeffs.now) x.now (valued_number result) (valued_value result) }
+    pub fn interp_one(self, coeffs: &[f64], x: &[f64]) -> Result<f64, Refusal>
+        ensures { OneValue (regular binary64 (map_of self) coeffs.now) x.now (answer_number result) (answer_or f0 result) }
     {
         eval::one(self, coeffs, x)
     }
 
     // The gradient at a query, with the refusals of interp_one.
-    pub fn interp_one_grad(self, coeffs: &[f64], x: &[f64]) -> Gradient
-        ensures { OneGradient (regular binary64 (map_of self) coeffs.now) x.now (answer_number result.answer) result.parts }
+    pub fn interp_one_grad(self, coeffs: &[f64], x: &[f64]) -> Result<[f64; 4], Refusal>
+        ensures { OneGradient (regular binary64 (map_of self) coeffs.now) x.now (answer_number result) (answer_or zeros result) }
     {
         eval::one_grad(self, coeffs, x)
     }
@@ -91,7 +84,7 @@ impl MultiBsplineRegular {
     // Values at a batch of queries, axis after axis: `out.len()` coordinates of axis 0, then those of axis 1, and so on. The
     // refusals of interp_one, 2 where the numbers of coordinates and outputs disagree. A batch that is refused with 6 at an
     // entry has written the entries before it and none from it on; any other refusal leaves `out` as it was.
-    pub fn interp(self, coeffs: &[f64], x: &[f64], out: &mut [f64]) -> Answer
+    pub fn interp(self, coeffs: &[f64], x: &[f64], out: &mut [f64]) -> Result<(), Refusal>
         ensures { ValueBatch (regular binary64 (map_of self) coeffs.now) x.now out.old (answer_number result) out.new }
     {
         batch::values(self, coeffs, x, out)
@@ -99,7 +92,7 @@ impl MultiBsplineRegular {
 
     // Gradients at a batch of queries, both axis after axis: of n entries, part k of entry i at k n + i. As `interp`; 2 also
     // where the length of `out` is no multiple of the axis count.
-    pub fn interp_grad(self, coeffs: &[f64], x: &[f64], out: &mut [f64]) -> Answer
+    pub fn interp_grad(self, coeffs: &[f64], x: &[f64], out: &mut [f64]) -> Result<(), Refusal>
         ensures { GradientBatch (regular binary64 (map_of self) coeffs.now) x.now out.old (answer_number result) out.new }
     {
         batch::gradients(self, coeffs, x, out)
@@ -113,8 +106,8 @@ impl MultiBsplineRegular {
         steps: [f64; 4],
         coeffs: &[f64],
         linearize_extrapolation: bool,
-    ) -> Built
-        ensures { RegularBuilt (map_answer shape.count shape.dims steps (length coeffs.now)) shape.count shape.dims starts steps linearize_extrapolation (answer_number result.answer) (map_of result.map) }
+    ) -> Result<MultiBsplineRegular, Refusal>
+        ensures { RegularBuilt (map_answer shape.count shape.dims steps (length coeffs.now)) shape.count shape.dims starts steps linearize_extrapolation result }
     {
         let dims = shape.dims;
         build::build(
@@ -137,10 +130,10 @@ impl MultiBsplineRegular {
         coeffs: &mut [f64],
         scratch: &mut [f64],
         linearize_extrapolation: bool,
-    ) -> Built
+    ) -> Result<MultiBsplineRegular, Refusal>
         ensures regular_built { RegularBuilt
             (from_values_answer shape.count shape.dims steps (length vals.now) (length coeffs.old) (length scratch.old))
-            shape.count shape.dims starts steps linearize_extrapolation (answer_number result.answer) (map_of result.map) }
+            shape.count shape.dims starts steps linearize_extrapolation result }
         ensures regular_fit_leaves { RegularFitLeaves binary64 shape.count shape.dims vals.now coeffs.old scratch.old coeffs.new scratch.new }
     {
         let dims = shape.dims;

@@ -1,12 +1,12 @@
 // The calls under test: those of the map that a record and its grid describe.
 ghost use Rattle.std.specs.Prelude.{◌≤◌};
 
-use evaluation::{Gradient, Valued};
+
 use oracle_list::number_at;
 use oracle_run::shape_of;
 use rectilinear_map::{Built, MultiBsplineRectilinear, no_ghosts};
 use regular_map::MultiBsplineRegular;
-use shape::Answer;
+use shape::Refusal;
 
 // Kinds from 8 on are rectilinear.
 fn is_rectilinear(text: &[u8]) -> bool {
@@ -53,7 +53,7 @@ fn regular(text: &[u8], grid: &[f64]) -> MultiBsplineRegular {
     }
 }
 
-fn build_regular(text: &[u8], grid: &[f64], coeffs: &[f64]) -> Answer {
+fn build_regular(text: &[u8], grid: &[f64], coeffs: &[f64]) -> Result<(), Refusal> {
     let starts = four_from(grid, 0);
     let steps = four_from(grid, 4);
     let built = MultiBsplineRegular::new(shape_of(text), starts, steps, coeffs, is_linear(text));
@@ -84,8 +84,8 @@ fn rectilinear(text: &[u8], grid: &[f64], coeffs: &[f64]) -> MultiBsplineRectili
     let built = build_rectilinear(text, grid, coeffs);
     let answer = built.answer;
     match answer {
-        Answer::Accepted => built.map,
-        Answer::Refused(_) => bare(text),
+        Ok(()) => built.map,
+        Err(_) => bare(text),
     }
 }
 
@@ -120,7 +120,7 @@ pub fn gradients(text: &[u8], grid: &[f64], coeffs: &[f64], xs: &[f64], out: &mu
 }
 
 // The value of a single query.
-pub fn value(text: &[u8], grid: &[f64], coeffs: &[f64], x: &[f64]) -> Valued {
+pub fn value(text: &[u8], grid: &[f64], coeffs: &[f64], x: &[f64]) -> Result<f64, Refusal> {
     if is_rectilinear(text) {
         return rectilinear(text, grid, coeffs).interp_one(grid, coeffs, x);
     }
@@ -128,7 +128,7 @@ pub fn value(text: &[u8], grid: &[f64], coeffs: &[f64], x: &[f64]) -> Valued {
 }
 
 // Its gradient.
-pub fn gradient(text: &[u8], grid: &[f64], coeffs: &[f64], x: &[f64]) -> Gradient {
+pub fn gradient(text: &[u8], grid: &[f64], coeffs: &[f64], x: &[f64]) -> Result<[f64; 4], Refusal> {
     if is_rectilinear(text) {
         return rectilinear(text, grid, coeffs).interp_one_grad(grid, coeffs, x);
     }

@@ -3,7 +3,6 @@ ghost use Rattle.std.specs.Prelude.{◌≡◌, ◌≤◌, length};
 
 use crate::map;
 use crate::map::float_of;
-use evaluation::Valued;
 
 // A value's number, and the value: 0 where it is refused.
 #[derive(Clone, Copy)]
@@ -12,15 +11,15 @@ struct One {
     value: f64,
 }
 
-fn one_of(valued: Valued) -> One {
+fn one_of(valued: Result<f64, Refusal>) -> One {
     match valued {
-        Valued::Value(x) => {
+        Ok(x) => {
             One {
                 number: 0,
                 value: x,
             }
         }
-        Valued::Refused(refusal) => {
+        Err(refusal) => {
             One {
                 number: refusal.number(),
                 value: 0.0,

@@ -1,6 +1,6 @@
 -- When a shape is accepted, what that gives of each axis, and how a refusal of the shape carries to longer lists of checks.
 -- Assumes nothing.
-use mathlib.Core.Path.{◌≡◌, refl, sym, ap, ap₂, ◌∙◌}
+use mathlib.Core.Path.{◌≡◌, refl, sym, ap, ◌∙◌}
 use mathlib.Core.Bool.{Bool, true, false, cond, ◌&&◌, ◌||◌}
 use mathlib.Core.List.{List, [], ◌∷◌, ◌++◌}
 use Prim.Native.Nat.{ℕ, zero, suc, ◌+◌, ◌*◌, ◌-◌, ◌≤◌, ◌<◌}
@@ -10,13 +10,12 @@ use native.Mathlib.Omega.{arith}
 use lib.Dec.{eqb, ltb}
 use lib.ListN.{length, get_or, take, drop}
 use lib.Seq.{length-take-le, get_or-take, take-take}
+use Rattle.std.proofs.lemmas.List.{drop-take}
 use borrow.Author.Tests.{ltb-false, lt-ltb, le-ltb, eqb-false, ne_eqb, eq-eqb}
 use Rattle.shape.specs.Shape.{product, longest, size, points, NotEmpty, stride, lines, first}
-use Rattle.shape.specs.Refusal.{refusal_number, answer_number}
+use Rattle.shape.specs.Refusal.{refusal_number}
 use Rattle.shape.specs.declared.answers.Refusal.{Refusal}
 use Rattle.shape.specs.declared.answers.Refusal.TheVariants.{AxisCount, DimensionMismatch, TooManyPoints, ScratchTooSmall, NotIncreasing, Unrepresentable, NoSuchLine, AlreadySolved, NotDue}
-use Rattle.shape.specs.declared.answers.Answer.{Answer}
-use Rattle.shape.specs.declared.answers.Answer.TheVariants.{Accepted, Refused}
 use Rattle.shape.specs.Checks.{Check, first_refusal, any_short, most_points, shape_checks, shape_accepted, Positive}
 use Rattle.shape.specs.Usable.{Usable, LinesWithin}
 use Rattle.shape.specs.Sizes.{coeff_storage_len, construction_scratch_len, stride_of, lines_of}
@@ -110,13 +109,9 @@ module _ (count : ℕ) (lens : List ℕ) where
   shape-accepted e = eq-eqb _ _ e
 
   -- what the answer of `check` says
-  pub told-accepted : {x : Answer} → x ≡ Accepted → answer_number x ≡ first_refusal (shape_checks count lens) → first_refusal (shape_checks count lens) ≡ 0
-  told-accepted told e = sym e ∙ ap answer_number told
-
-  pub told-refused : {x : Answer} {r : Refusal} → x ≡ Refused r → answer_number x ≡ first_refusal (shape_checks count lens) → shape_accepted count lens ≡ false
+  pub told-refused : (r : Refusal) → refusal_number r ≡ first_refusal (shape_checks count lens) → shape_accepted count lens ≡ false
   unfolding shape_accepted
-  told-refused {x} {r} told e =
-      ne_eqb _ _ (λ z. let k : refusal_number r ≡ 0 = sym (ap answer_number told) ∙ e ∙ z in omega (arith, refusal-suc r, k))
+  told-refused r e = ne_eqb _ _ (λ z. let k : refusal_number r ≡ 0 = e ∙ z in omega (arith, refusal-suc r, k))
 
   pub usable : length lens ≡ 4 → first_refusal (shape_checks count lens) ≡ 0 → Usable count lens
   usable four e =
@@ -192,18 +187,6 @@ module _ (count : ℕ) (lens : List ℕ) (four : length lens ≡ 4) (u : Usable 
         lines-small = omega (arith, u.few-points, le-mul_of_pos_right (o * s) np');
       }
 
-  -- what `span` asks: of the axes after axis a, and of those before it
-  pub later-span : (a : ℕ) → a < count → (a + 1 ≤ count) × (count ≤ 4) × ((b : ℕ) → b < count → 0 < get_or lens b 0) × (product (drop (a + 1) (take count lens)) ≤ most_points)
-  later-span a h = (omega arith, u.at-most-four, usable-positive, rw add-one (room a h).stride-small)
-
-  pub earlier-span : (a : ℕ) → a < count → (0 ≤ a) × (a ≤ 4) × ((b : ℕ) → b < a → 0 < get_or lens b 0) × (product (drop 0 (take a lens)) ≤ most_points)
-  earlier-span a h = (
-    omega arith,
-    omega (arith, u.at-most-four),
-    (λ b k. usable-positive b (omega arith)),
-    rw (take-take a count lens (omega arith)) at (room a h).outer-small,
-  )
-
   -- an axis has at least four points, and no more than the map
   pub axis-small : (a : ℕ) → a < count → (4 ≤ get_or lens a 0) × (get_or lens a 0 ≤ most_points)
   axis-small a h =
@@ -232,14 +215,15 @@ axis-le-longest [] a = omega arith
 axis-le-longest (n ∷ ns) zero = omega arith
 axis-le-longest (n ∷ ns) (suc a) = omega (arith, axis-le-longest ns a)
 
--- stride and lines of an axis, from the spans of the axes before and after it
-module _ (count : ℕ) (lens : List ℕ) (a : ℕ) where
-  pub stride-span : {x : ℕ} → x ≡ product (drop (a + 1) (take count lens)) → x ≡ stride (take count lens) a
-  stride-span e = e ∙ rw (add-one a)
+-- the lengths of the axes after axis a, and of those before it
+module _ (lens : List ℕ) (count a : ℕ) (h : a < count) where
+  pub after : take (count - (a + 1)) (drop (a + 1) lens) ≡ drop (suc a) (take count lens)
+  after =
+      let whole : a + 1 + (count - (a + 1)) ≡ count = omega arith in
+      sym (drop-take (a + 1) (count - (a + 1)) lens) ∙ ap (λ k. drop (a + 1) (take k lens)) whole ∙ rw add-one
 
-  pub lines-span : {x y : ℕ} → a < count → x ≡ product (drop 0 (take a lens)) → y ≡ product (drop (a + 1) (take count lens)) → x * y ≡ lines (take count lens) a
-  lines-span h ex ey =
-      ap₂ (λ (p q : ℕ). p * q) (ex ∙ ap product (sym (take-take a count lens (omega arith)))) (ey ∙ rw (add-one a))
+  pub before : take a lens ≡ take a (take count lens)
+  before = sym (take-take a count lens (omega arith))
 
 -- ---- what the methods answer for an accepted shape
 

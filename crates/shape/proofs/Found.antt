@@ -1,5 +1,5 @@
 -- What `first_cell` answers, outcome by outcome; and a line by the numbers that the code works out. Assumes nothing.
-use mathlib.Core.Path.{◌≡◌, sym, ap, ◌∙◌}
+use mathlib.Core.Path.{◌≡◌, sym, ◌∙◌}
 use mathlib.Core.Bool.{Bool, true, false, cond, not}
 use mathlib.Core.List.{List, [], ◌∷◌}
 use Prim.Native.Nat.{ℕ, ◌-◌, ◌*◌, ◌≤◌, ◌<◌}
@@ -8,27 +8,23 @@ use lib.Dec.{eqb}
 use lib.ListN.{length, get_or, take}
 use borrow.Author.Tests.{lt-ltb, le-ltb, ne_eqb}
 use Rattle.shape.specs.Shape.{longest, size, points, stride, lines, first_cell, is_line}
-use Rattle.shape.specs.Refusal.{refusal_number, answer_number}
+use Rattle.shape.specs.Refusal.{refusal_number}
 use Rattle.shape.specs.Checks.{first_refusal, refuse, most_points, shape_checks}
 use Rattle.shape.specs.Usable.{Usable}
 use Rattle.shape.specs.Line.{LineIs, LineLooked, LineInside, LineFits}
 use Rattle.shape.specs.Sizes.{first_cell_answer, FirstCellFound}
+use Rattle.std.specs.Prelude.{Ok, Err, Option, Some, None}
 use Rattle.shape.specs.declared.answers.Refusal.{Refusal}
 use Rattle.shape.specs.declared.answers.Refusal.TheVariants as Refusals
-use Rattle.shape.specs.declared.answers.Answer as Answer
-use Rattle.shape.specs.declared.answers.FirstCell.TheVariants.{At, Refused}
-use Rattle.shape.specs.declared.inner.Line.{Line}
-use Rattle.shape.specs.declared.inner.LineFound.{LineFound}
-use Rattle.shape.specs.declared.inner.LineFound.TheVariants.{NoSuchLine}
-use Rattle.shape.specs.declared.inner.LineFound.TheVariants as Founds
+use Rattle.shape.specs.declared.line.Line.{Line}
 use Rattle.shape.proofs.Accepted.{refusal-suc, refusal-append, accepted-append, room, axes-are, in_map, points-are, axis-le-longest}
 
 module _ (count : ℕ) (lens : List ℕ) (a l : ℕ) where
   -- the shape is refused
-  pub found-refused : {x : Answer.Answer} {r : Refusal} → x ≡ Answer.TheVariants.Refused r → answer_number x ≡ first_refusal (shape_checks count lens) → FirstCellFound count lens a l (Refused r)
+  pub found-refused : (r : Refusal) → refusal_number r ≡ first_refusal (shape_checks count lens) → FirstCellFound count lens a l (Err r)
   unfolding first_cell_answer
-  found-refused {x} {r} told e =
-      let same : refusal_number r ≡ first_cell_answer count lens a l = refusal-append r (shape_checks count lens) _ (sym (ap answer_number told) ∙ e) in
+  found-refused r e =
+      let same : refusal_number r ≡ first_cell_answer count lens a l = refusal-append r (shape_checks count lens) _ e in
       let some : eqb (first_cell_answer count lens a l) 0 ≡ false = ne_eqb _ _ (λ (z : first_cell_answer count lens a l ≡ 0). omega (arith, refusal-suc r, same)) in
       record { answers = same; cell = rw some }
 
@@ -38,11 +34,11 @@ module _ (count : ℕ) (lens : List ℕ) (a l : ℕ) where
     answer-is b e = accepted-append count lens ok (refuse 7 (not (is_line (take count lens) a l)) ∷ []) ∙ rw e
 
     -- there is no such axis or line
-    pub found_none : {x : LineFound} → x ≡ NoSuchLine → LineLooked (take count lens) a l x → FirstCellFound count lens a l (Refused Refusals.NoSuchLine)
+    pub found_none : {x : Option Line} → x ≡ None → LineLooked (take count lens) a l x → FirstCellFound count lens a l (Err Refusals.NoSuchLine)
     found_none told w = let n = answer-is false (rw told at w) in record { answers = sym n; cell = rw n }
 
     -- the line's first cell
-    pub found_at : {x : LineFound} {found : Line} → x ≡ Founds.At found → LineLooked (take count lens) a l x → FirstCellFound count lens a l (At found.base)
+    pub found_at : {x : Option Line} {found : Line} → x ≡ Some found → LineLooked (take count lens) a l x → FirstCellFound count lens a l (Ok found.base)
     found_at {found = found} told looked =
         let w : LineIs (take count lens) a l found = rw told at looked in
         let z = answer-is true (rw (lt-ltb a (length (take count lens)) w.is-axis, lt-ltb l (lines (take count lens) a) w.is-line)) in

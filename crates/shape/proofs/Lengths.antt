@@ -8,40 +8,57 @@ use native.Mathlib.Numerals.{add-one}
 use native.Mathlib.Omega.{arith}
 use lib.Dec.{ltb}
 use lib.ListN.{length, take, drop, get_or, drop_of_length-le}
-use lib.Seq.{slice-cons, length-take-le}
+use lib.Seq.{slice-cons, length-take-le, drop-cons}
 use borrow.Author.Tests.{ltb-false}
 use Rattle.shape.specs.Shape.{product, longest}
 use Rattle.shape.specs.Checks.{any_short}
 
+-- ---- the lengths from i on: one more
+
+module _ (dims : List ℕ) (i : ℕ) (h : i < length dims) where
+  pub short-at : any_short (drop i dims) ≡ (ltb (get_or dims i 0) 4 || any_short (drop (i + 1) dims))
+  unfolding any_short
+  short-at = ap any_short (drop-cons dims i 0 h) ∙ rw add-one
+
+  pub product-at : product (drop i dims) ≡ get_or dims i 0 * product (drop (i + 1) dims)
+  unfolding product
+  product-at = ap product (drop-cons dims i 0 h) ∙ rw add-one
+
+  pub longest-at : longest (drop i dims) ≡ max (get_or dims i 0) (longest (drop (i + 1) dims))
+  unfolding longest
+  longest-at = ap longest (drop-cons dims i 0 h) ∙ rw add-one
+
+-- the length at i is a factor of what is left
+pub factor-at : (dims : List ℕ) (i total : ℕ) → i < length dims → total * product (drop i dims) ≡ product dims → total * get_or dims i 0 * product (drop (i + 1) dims) ≡ product dims
+factor-at dims i total h e = omega (arith, e, ap (λ (x : ℕ). total * x) (product-at dims i h))
+
+-- and none
+module _ (dims : List ℕ) (i : ℕ) (h : length dims ≤ i) where
+  pub short-past : any_short (drop i dims) ≡ false
+  unfolding any_short
+  short-past = ap any_short (drop_of_length-le dims {i = i} h)
+
+  pub product-past : product (drop i dims) ≡ 1
+  unfolding product
+  product-past = ap product (drop_of_length-le dims {i = i} h)
+
+  pub longest-past : longest (drop i dims) ≡ 0
+  unfolding longest
+  longest-past = ap longest (drop_of_length-le dims {i = i} h)
+
 -- ---- the axes from i on, of the first k: one more axis, and none
 
 module _ (lens : List ℕ) (k i : ℕ) (h : k ≤ length lens) where
-  pub short-cons : i < k → any_short (drop i (take k lens)) ≡ (ltb (get_or lens i 0) 4 || any_short (drop (i + 1) (take k lens)))
-  unfolding any_short
-  short-cons g = ap any_short (slice-cons i k lens 0 g h) ∙ rw add-one
-
   pub product-cons : i < k → product (drop i (take k lens)) ≡ get_or lens i 0 * product (drop (i + 1) (take k lens))
   unfolding product
   product-cons g = ap product (slice-cons i k lens 0 g h) ∙ rw add-one
 
-  pub longest-cons : i < k → longest (drop i (take k lens)) ≡ max (get_or lens i 0) (longest (drop (i + 1) (take k lens)))
-  unfolding longest
-  longest-cons g = ap longest (slice-cons i k lens 0 g h) ∙ rw add-one
-
   none : k ≤ i → drop i (take k lens) ≡ []
   none g = drop_of_length-le (take k lens) {i = i} (rw (length-take-le k lens h) g)
-
-  pub short-end : k ≤ i → any_short (drop i (take k lens)) ≡ false
-  unfolding any_short
-  short-end g = ap any_short (none g)
 
   pub product-end : k ≤ i → product (drop i (take k lens)) ≡ 1
   unfolding product
   product-end g = ap product (none g)
-
-  pub longest-end : k ≤ i → longest (drop i (take k lens)) ≡ 0
-  unfolding longest
-  longest-end g = ap longest (none g)
 
 -- ---- axes of four points or more
 

@@ -14,3 +14,4 @@ pub mod Found
 pub mod Fit
 pub mod Lines
 pub mod Loops
+pub mod Exit

@@ -6,6 +6,7 @@ pub mod Fit
 pub mod Refusal
 pub mod Checks
 pub mod Usable
+pub mod Axes
 pub mod Line
 pub mod Sizes
 pub mod Outcome

@@ -1,12 +1,10 @@
 -- A line by the numbers that the code works out. For contracts inside the library. Assumes nothing.
 --     found                   those numbers: the points and the stride of its axis, its first cell, the longest axis
 --     coefs, ledger, scratch  the lengths of the buffers
-use Rattle.std.specs.Prelude.{◌≡◌, false, List, ℕ, ◌+◌, ◌-◌, ◌≤◌, ◌<◌, length}
+use Rattle.std.specs.Prelude.{◌≡◌, false, Option, Some, None, List, ℕ, ◌+◌, ◌-◌, ◌≤◌, ◌<◌, length}
 use Rattle.shape.specs.Shape.{longest, points, stride, lines, first, is_line}
 use Rattle.shape.specs.Cells.{on_line}
-use Rattle.shape.specs.declared.inner.Line.{Line}
-use Rattle.shape.specs.declared.inner.LineFound.{LineFound}
-use Rattle.shape.specs.declared.inner.LineFound.TheVariants.{At, NoSuchLine}
+use Rattle.shape.specs.declared.line.Line.{Line}
 
 -- line l of axis a
 pub record LineIs (dims : List ℕ) (a l : ℕ) (found : Line) : Type 0 where
@@ -18,9 +16,9 @@ pub record LineIs (dims : List ℕ) (a l : ℕ) (found : Line) : Type 0 where
   pub the-longest : found.longest ≡ longest dims
 
 -- what a search for it finds
-abbrev pub LineLooked : List ℕ → ℕ → ℕ → LineFound → Type 0
-LineLooked dims a l (At found) = LineIs dims a l found
-LineLooked dims a l NoSuchLine = is_line dims a l ≡ false
+abbrev pub LineLooked : List ℕ → ℕ → ℕ → Option Line → Type 0
+LineLooked dims a l (Some found) = LineIs dims a l found
+LineLooked dims a l None = is_line dims a l ≡ false
 
 -- it lies within a buffer of one cell a point
 abbrev pub LineInside : Line → ℕ → Type 0

@@ -1,9 +1,9 @@
-// What a call answers: that it was accepted, or why it was refused. A refused call leaves its buffers as they were, but for
-// the cases that its own comment names. The numbers are those of specs/Refusal.antt.
+// Why a call is refused. A refused call leaves its buffers as they were, but for the cases that its own comment names. The numbers
+// are those of specs/Refusal.antt.
 ghost use Rattle.std.specs.Prelude.{◌≡◌};
 ghost use Rattle.shape.specs.Refusal.{refusal_number, answer_number};
 
-#[derive(Clone, Copy)]
+#[derive(Clone, Copy, Debug, PartialEq, Eq)]
 pub enum Refusal {
     // 1: no axes, or more than four
     AxisCount,
@@ -25,12 +25,6 @@ pub enum Refusal {
     NotDue,
 }
 
-#[derive(Clone, Copy)]
-pub enum Answer {
-    Accepted,
-    Refused(Refusal),
-}
-
 impl Refusal {
     pub fn number(self) -> u64
         ensures { result ≡ refusal_number self }
@@ -49,21 +43,12 @@ impl Refusal {
     }
 }
 
-impl Answer {
-    // 0 where the call was accepted.
-    pub fn number(self) -> u64
-        ensures { result ≡ answer_number self }
-    {
-        match self {
-            Answer::Accepted => 0,
-            Answer::Refused(refusal) => refusal.number(),
-        }
+// The number that a call answers: 0 where it was accepted.
+pub fn answer_number(answer: Result<(), Refusal>) -> u64
+    ensures { result ≡ answer_number answer }
+{
+    match answer {
+        Ok(()) => 0,
+        Err(refusal) => refusal.number(),
     }
-}
-
-// Where a line begins.
-#[derive(Clone, Copy)]
-pub enum FirstCell {
-    At(usize),
-    Refused(Refusal),
 }

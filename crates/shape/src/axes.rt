@@ -1,91 +1,83 @@
-// What the methods of `Shape` answer, on the axis count and the lengths.
-ghost use Rattle.std.specs.Prelude.{◌≡◌, take};
-ghost use Rattle.shape.specs.Shape.{longest};
-ghost use Rattle.shape.specs.Checks.{shape_checks, first_refusal};
-ghost use Rattle.shape.specs.Refusal.{answer_number};
-ghost use Rattle.shape.specs.Sizes.{coeff_storage_len, construction_scratch_len, stride_of, lines_of, FirstCellFound};
+// The axes of a map whose shape is accepted: what a fit works out of them, with no need to look at the shape again.
+ghost use Rattle.std.specs.Prelude.{◌≡◌, ◌*◌, ◌<◌, take};
+ghost use Rattle.shape.specs.Shape.{longest, size, stride, lines};
+ghost use Rattle.shape.specs.Usable.{Usable};
+ghost use Rattle.shape.specs.Line.{LineLooked};
 
-use crate::answers::{Answer, FirstCell, Refusal};
-use crate::inner::{LineFound, find_line, lines_of, points_of, scratch_of, stride_of};
-use crate::spans::{any_short, longest_of, points_to_limit};
+use crate::line::{Line, first_cell_of};
+use crate::spans::{longest_of, span};
 
-pub fn check(count: usize, dims: [usize; 4]) -> Answer
-    ensures { answer_number result ≡ first_refusal (shape_checks count dims) }
-{
-    if count == 0 {
-        return Answer::Refused(Refusal::AxisCount);
-    }
-    if 4 < count {
-        return Answer::Refused(Refusal::AxisCount);
-    }
-    if any_short(dims, count) {
-        return Answer::Refused(Refusal::DimensionMismatch);
-    }
-    if 16777216 < points_to_limit(dims, count) {
-        return Answer::Refused(Refusal::TooManyPoints);
-    }
-    Answer::Accepted
+// One to four axes of at least four points, at most 16,777,216 points in all; `Shape::axes` makes it. Lengths past the axis count are
+// not looked at.
+#[derive(Clone, Copy)]
+pub struct Axes {
+    pub count: usize,
+    pub dims: [usize; 4],
+    ghost usable: { Usable count dims },
 }
 
-pub fn longest(count: usize, dims: [usize; 4]) -> usize
-    ensures { result ≡ longest (take count dims) }
-{
-    if 4 < count {
-        return longest_of(dims, 4);
+impl Axes {
+    // How many points the map has.
+    pub fn points(self) -> usize
+        ensures { result ≡ size (take self.count self.dims) }
+    {
+        let dims = self.dims;
+        span(&dims[..self.count])
     }
-    longest_of(dims, count)
-}
 
-pub fn coeff_storage_len(count: usize, dims: [usize; 4]) -> usize
-    ensures { result ≡ coeff_storage_len count dims }
-{
-    match check(count, dims) {
-        Answer::Accepted => points_of(count, dims),
-        Answer::Refused(_) => 0,
+    // The length of the longest axis.
+    pub fn longest(self) -> usize
+        ensures { result ≡ longest (take self.count self.dims) }
+    {
+        let dims = self.dims;
+        longest_of(&dims[..self.count])
     }
-}
 
-pub fn construction_scratch_len(count: usize, dims: [usize; 4]) -> usize
-    ensures { result ≡ construction_scratch_len count dims }
-{
-    match check(count, dims) {
-        Answer::Accepted => scratch_of(count, dims),
-        Answer::Refused(_) => 0,
+    // How much scratch a fit needs, twice the longest axis.
+    pub fn scratch_len(self) -> usize
+        ensures { result ≡ 2 * longest (take self.count self.dims) }
+    {
+        2 * self.longest()
     }
-}
 
-pub fn stride(count: usize, dims: [usize; 4], axis: usize) -> usize
-    ensures { result ≡ stride_of count dims axis }
-{
-    if count <= axis {
-        return 0;
+    // How far apart two neighbours on an axis are.
+    pub fn stride(self, axis: usize) -> usize
+        requires { axis < self.count }
+        ensures { result ≡ stride (take self.count self.dims) axis }
+    {
+        let dims = self.dims;
+        span(&dims[axis + 1..self.count])
     }
-    match check(count, dims) {
-        Answer::Accepted => stride_of(count, dims, axis),
-        Answer::Refused(_) => 0,
-    }
-}
 
-pub fn lines(count: usize, dims: [usize; 4], axis: usize) -> usize
-    ensures { result ≡ lines_of count dims axis }
-{
-    if count <= axis {
-        return 0;
+    // How many lines an axis has.
+    pub fn lines(self, axis: usize) -> usize
+        requires { axis < self.count }
+        ensures { result ≡ lines (take self.count self.dims) axis }
+    {
+        let dims = self.dims;
+        span(&dims[..axis]) * self.stride(axis)
     }
-    match check(count, dims) {
-        Answer::Accepted => lines_of(count, dims, axis),
-        Answer::Refused(_) => 0,
-    }
-}
 
-pub fn first_cell(count: usize, dims: [usize; 4], axis: usize, line: usize) -> FirstCell
-    ensures { FirstCellFound count dims axis line result }
-{
-    if let Answer::Refused(refusal) = check(count, dims) {
-        return FirstCell::Refused(refusal);
-    }
-    match find_line(count, dims, axis, line) {
-        LineFound::At(found) => FirstCell::At(found.base),
-        LineFound::NoSuchLine => FirstCell::Refused(Refusal::NoSuchLine),
+    // The numbers of a line, unless there is no such axis or line.
+    pub fn line(self, axis: usize, line: usize) -> Option<Line>
+        ensures { LineLooked (take self.count self.dims) axis line result }
+    {
+        if self.count <= axis {
+            return None;
+        }
+        if self.lines(axis) <= line {
+            return None;
+        }
+        let dims = self.dims;
+        let n = dims[axis];
+        let stride = self.stride(axis);
+        let base = first_cell_of(n, stride, line);
+        let longest = self.longest();
+        Some(Line {
+            n,
+            stride,
+            base,
+            longest,
+        })
     }
 }

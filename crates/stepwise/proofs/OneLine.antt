@@ -6,7 +6,7 @@ use Rattle.shape.specs.Shape.{longest, points, stride}
 use Rattle.shape.specs.Cells.{on_line, line, write_line}
 use Rattle.shape.specs.Fit.{solve_line, line_scratch, along}
 use Rattle.shape.specs.Line.{LineIs, LineFits}
-use Rattle.shape.specs.declared.inner.Line.{Line}
+use Rattle.shape.specs.declared.line.Line.{Line}
 
 module _ {A : Type 0} (o : A) (upper solve : ℕ → (ℕ → A) → ℕ → A) {dims : List ℕ} {a l : ℕ} {found : Line} (x : LineIs dims a l found) {u v : (ℕ → A) → ℕ → A}
     (eu : u ≡ upper a) (ev : v ≡ solve a) (xs ss : List A) where

@@ -13,12 +13,10 @@ use borrow.Author.Tests.{ne_eqb}
 use Rattle.shape.specs.Shape.{longest, size, points, stride}
 use Rattle.shape.specs.Checks.{Check, first_refusal, length_check, Positive}
 use Rattle.shape.specs.Fit.{solve_line, line_scratch, along}
-use Rattle.shape.specs.Refusal.{refusal_number, answer_number}
+use Rattle.shape.specs.Refusal.{refusal_number}
 use Rattle.shape.specs.declared.answers.Refusal.{Refusal}
-use Rattle.shape.specs.declared.answers.Answer.{Answer}
-use Rattle.shape.specs.declared.answers.Answer.TheVariants.{Accepted, Refused}
 use Rattle.shape.specs.Line.{LineIs, LineInside, LineFits}
-use Rattle.shape.specs.declared.inner.Line.{Line}
+use Rattle.shape.specs.declared.line.Line.{Line}
 use Rattle.shape.proofs.Accepted.{refusal-append, passed-append, positive-append}
 use Rattle.shape.proofs.Found.{on-axis, line-inside, line-fits}
 use Rattle.book.specs.LineCall.{Call, State, due_checks, bumped, begin_checks, begin_answer, call_checks, call_answer, line_call, call_scratch, after, answers, begun}
@@ -26,13 +24,10 @@ use Rattle.book.specs.Order.{Claim}
 use Rattle.book.proofs.Answers.{begin-passed}
 use Rattle.book.proofs.SameLengths.{length-coefs, length-ledger, length-call-scratch}
 use Rattle.stepwise.specs.Calls.{task_list, Begun, list_checks, LineCalled, task_scratch, OneRan, ListRan, Ran}
-use Rattle.ledger.specs.Bytes.{EachByte, DueLooked}
+use Rattle.ledger.specs.Bytes.{EachByte}
 use Rattle.ledger.specs.Ready.{call_ready_checks}
-use Rattle.ledger.specs.declared.bytes.Due.{Due}
-use Rattle.ledger.specs.declared.bytes.Due.TheVariants.{At}
-use Rattle.ledger.specs.declared.bytes.Due.TheVariants as Dues
 use Rattle.ledger.proofs.DueBytes.{due-each}
-use Rattle.ledger.proofs.Stages.{is-accepted, is-refused, refusal-some, refusal-not-0, CallReady, call-ready, begun-ready, call-not-ready, line-left}
+use Rattle.ledger.proofs.Stages.{refusal-some, refusal-not-0, CallReady, call-ready, begun-ready, call-not-ready, line-left}
 
 -- ---- begin
 
@@ -42,17 +37,15 @@ begun-is : {A : Type 0} (dims : List ℕ) {samples coefs : List A} {ledger : Lis
 begun-is {A} dims n ec el en =
     ap₂ (λ (xs : List A) (bytes : List ℕ). record { coefs = xs; ledger = bytes }) ec (el ∙ ap (λ (m : ℕ). replicate m 0) en)
 
-module _ {count : ℕ} {lens : List ℕ} {grid knots : List Check} {A : Type 0} {samples : List A} {state : State A} {scratch : ℕ} {x : Answer} where
-  pub begun-refused : {r : Refusal} → x ≡ Refused r → answer_number x ≡ begin_answer count lens grid knots (length samples) (length state.coefs) (length state.ledger) scratch
+module _ {count : ℕ} {lens : List ℕ} {grid knots : List Check} {A : Type 0} {samples : List A} {state : State A} {scratch : ℕ} where
+  pub begun-refused : (r : Refusal) → refusal_number r ≡ begin_answer count lens grid knots (length samples) (length state.coefs) (length state.ledger) scratch
       → Begun count lens grid knots samples state scratch (refusal_number r) state
-  begun-refused {r} told e = record { answered = is-refused told e; leaves = rw (refusal-not-0 r) }
+  begun-refused r e = record { answered = e; leaves = rw (refusal-not-0 r) }
 
-  pub begun-accepted : Positive grid → Positive knots → {coefs' : List A} {ledger' : List ℕ} → x ≡ Accepted
-      → answer_number x ≡ begin_answer count lens grid knots (length samples) (length state.coefs) (length state.ledger) scratch
+  pub begun-accepted : Positive grid → Positive knots → {coefs' : List A} {ledger' : List ℕ} → begin_answer count lens grid knots (length samples) (length state.coefs) (length state.ledger) scratch ≡ 0
       → coefs' ≡ samples → ledger' ≡ replicate (length state.ledger) 0
       → Begun count lens grid knots samples state scratch 0 (record { coefs = coefs'; ledger = ledger' })
-  begun-accepted pg pk told e ec el =
-      let ok = is-accepted told e in
+  begun-accepted pg pk ok ec el =
       record {
         answered = sym ok;
         leaves = begun-is (take count lens) (length state.ledger) ec el (begin-passed count lens grid knots pg pk (length samples) (length state.coefs) (length state.ledger) scratch ok).ledger-size;
@@ -84,10 +77,9 @@ module _ {count : ℕ} {lens : List ℕ} {grid knots : List Check} {A : Type 0} 
 
 -- a call that is refused before its line is looked at
 pub called-unready : (count : ℕ) (lens : List ℕ) (grid knots : List Check) → Positive grid → Positive knots → {A : Type 0} {o : A} {upper solve : ℕ → (ℕ → A) → ℕ → A} (call : Call A) (state : State A)
-    → {x : Answer} {r : Refusal} → x ≡ Refused r
-    → answer_number x ≡ first_refusal (call_ready_checks count lens grid knots (length state.coefs) (length state.ledger) (length call.scratch))
+    → (r : Refusal) → refusal_number r ≡ first_refusal (call_ready_checks count lens grid knots (length state.coefs) (length state.ledger) (length call.scratch))
     → LineCalled count lens grid knots o upper solve call state (refusal_number r) state call.scratch
-called-unready count lens grid knots pg pk call state {r = r} told e = called-refused r (call-not-ready count lens grid knots pg pk call state told e)
+called-unready count lens grid knots pg pk call state r e = called-refused r (call-not-ready count lens grid knots pg pk call state r e)
 
 -- what a call may take for granted of a line that is found to be due, where all else is checked
 pub record LineDue {A : Type 0} (count : ℕ) (lens : List ℕ) (grid knots : List Check) (call : Call A) (state : State A) (found : Line) : Type 0 where
@@ -104,16 +96,15 @@ module _ (count : ℕ) (lens : List ℕ) (grid knots : List Check) (pg : Positiv
   left : call_answer count lens grid knots call state ≡ first_refusal (due_checks (take count lens) call.axis call.line state.ledger)
   left = line-left count lens grid knots pg pk call state ok
 
-  pub not-due : {o : A} {upper solve : ℕ → (ℕ → A) → ℕ → A} {x : Due} {r : Refusal} → x ≡ Dues.Refused r → DueLooked (take count lens) call.axis call.line state.ledger x
+  pub not-due : {o : A} {upper solve : ℕ → (ℕ → A) → ℕ → A} (r : Refusal) → refusal_number r ≡ first_refusal (due_checks (take count lens) call.axis call.line state.ledger)
       → LineCalled count lens grid knots o upper solve call state (refusal_number r) state call.scratch
-  not-due {r = r} told w = called-refused r ((rw told at w) ∙ sym left)
+  not-due r e = called-refused r (e ∙ sym left)
 
-  pub line-due : length lens ≡ 4 → {x : Due} {found : Line} → x ≡ At found → DueLooked (take count lens) call.axis call.line state.ledger x
+  pub line-due : length lens ≡ 4 → {found : Line} → LineIs (take count lens) call.axis call.line found × (first_refusal (due_checks (take count lens) call.axis call.line state.ledger) ≡ 0)
       → LineDue count lens grid knots call state found
-  line-due four {found = found} told w =
+  line-due four {found = found} p =
       let ready = call-ready count lens grid knots pg pk (length state.coefs) (length state.ledger) (length call.scratch) four ok in
       let u = ready.shape in
-      let p : LineIs (take count lens) call.axis call.line found × (first_refusal (due_checks (take count lens) call.axis call.line state.ledger) ≡ 0) = rw told at w in
       record {
         ready = ready;
         is-axis = on-axis count lens four u call.axis call.line p.0;
@@ -205,10 +196,10 @@ module _ (count : ℕ) (lens : List ℕ) (grid knots : List Check) (pg : Positiv
   begin-positive =
       (omega arith, (omega arith, (omega arith, positive-append grid _ pg (omega arith, (omega arith, positive-append knots _ pk (omega arith, (omega arith, tt)))))))
 
-  pub list-begin : {x : Answer} {r : Refusal} → x ≡ Refused r → answer_number x ≡ begin_answer count lens grid knots samples coefs ledger scratch
+  pub list-begin : (r : Refusal) → refusal_number r ≡ begin_answer count lens grid knots samples coefs ledger scratch
       → refusal_number r ≡ first_refusal (list_checks count lens grid knots samples coefs ledger scratch axes lines told)
   unfolding list_checks
-  list-begin {r = r} told e = refusal-append r (begin_checks count lens grid knots samples coefs ledger scratch) _ (is-refused told e)
+  list-begin r e = refusal-append r (begin_checks count lens grid knots samples coefs ledger scratch) _ e
 
   pub list-lengths : begin_answer count lens grid knots samples coefs ledger scratch ≡ 0 → {n : ℕ} → n ≡ first_refusal (length_check axes lines ++ length_check axes told)
       → n ≡ first_refusal (list_checks count lens grid knots samples coefs ledger scratch axes lines told)
@@ -236,31 +227,31 @@ module _ {count : ℕ} {lens : List ℕ} {grid knots : List Check} {A : Type 0} 
       record { answered = e; leaves = rw some; scratch_after = rw some; tells = rw some; agrees = λ z. absurd (refusal-some r z) }
 
 module _ {count : ℕ} {lens : List ℕ} {grid knots : List Check} (pg : Positive grid) (pk : Positive knots) {A : Type 0} {o : A} {upper solve : ℕ → (ℕ → A) → ℕ → A} {samples : List A} {axes lines : List ℕ}
-    {state : State A} {scratch : List A} {told : List ℕ} {x : Answer}
-    (e : answer_number x ≡ begin_answer count lens grid knots (length samples) (length state.coefs) (length state.ledger) (length scratch)) where
-  pub ran-not-begun : {r : Refusal} → x ≡ Refused r → Ran count lens grid knots o upper solve samples axes lines state scratch told (refusal_number r) state scratch told
-  ran-not-begun {r} is =
-      ran-refused r (list-begin count lens grid knots pg pk (length samples) (length state.coefs) (length state.ledger) (length scratch) (length axes) (length lines) (length told) is e)
+    {state : State A} {scratch : List A} {told : List ℕ} where
+  pub ran-not-begun : (r : Refusal) → refusal_number r ≡ begin_answer count lens grid knots (length samples) (length state.coefs) (length state.ledger) (length scratch)
+      → Ran count lens grid knots o upper solve samples axes lines state scratch told (refusal_number r) state scratch told
+  ran-not-begun r e =
+      ran-refused r (list-begin count lens grid knots pg pk (length samples) (length state.coefs) (length state.ledger) (length scratch) (length axes) (length lines) (length told) r e)
 
-  module _ (is : x ≡ Accepted) {y : Answer} (e₂ : answer_number y ≡ first_refusal (length_check (length axes) (length lines) ++ length_check (length axes) (length told))) where
-    pub ran-not-listed : {r : Refusal} → y ≡ Refused r → Ran count lens grid knots o upper solve samples axes lines state scratch told (refusal_number r) state scratch told
-    ran-not-listed {r} is₂ =
+  module _ (ok : begin_answer count lens grid knots (length samples) (length state.coefs) (length state.ledger) (length scratch) ≡ 0) where
+    pub ran-not-listed : (r : Refusal) → refusal_number r ≡ first_refusal (length_check (length axes) (length lines) ++ length_check (length axes) (length told))
+        → Ran count lens grid knots o upper solve samples axes lines state scratch told (refusal_number r) state scratch told
+    ran-not-listed r e =
         ran-refused r
-        (list-lengths count lens grid knots pg pk (length samples) (length state.coefs) (length state.ledger) (length scratch) (length axes) (length lines) (length told) (is-accepted is e) (is-refused is₂ e₂))
+        (list-lengths count lens grid knots pg pk (length samples) (length state.coefs) (length state.ledger) (length scratch) (length axes) (length lines) (length told) ok e)
 
-    pub ran-accepted : y ≡ Accepted → {coefs₁ scratch' : List A} {ledger₁ told' : List ℕ} {state' : State A}
+    pub ran-accepted : ◌≡◌ {A = ℕ} 0 (first_refusal (length_check (length axes) (length lines) ++ length_check (length axes) (length told))) → {coefs₁ scratch' : List A} {ledger₁ told' : List ℕ} {state' : State A}
         → coefs₁ ≡ samples → ledger₁ ≡ replicate (length state.ledger) 0
         → ListRan count lens grid knots o upper solve axes lines (record { coefs = coefs₁; ledger = ledger₁ }) scratch state' scratch' told'
         → Claim o solve count lens grid knots samples (task_list axes lines scratch)
         → Ran count lens grid knots o upper solve samples axes lines state scratch told 0 state' scratch' told'
-    ran-accepted is₂ {state' = state'} ec el w claim =
-        let ok = is-accepted is e in
+    ran-accepted e {state' = state'} ec el w claim =
         let len = (begin-passed count lens grid knots pg pk (length samples) (length state.coefs) (length state.ledger) (length scratch) ok).ledger-size in
         let from = begun-is (take count lens) (length state.ledger) ec el len in
         let leaves : state' ≡ after count lens grid knots o solve (task_list axes lines scratch) (begun (take count lens) samples) =
         w.leaves ∙ ap (after count lens grid knots o solve (task_list axes lines scratch)) from in
         record {
-          answered = list-lengths count lens grid knots pg pk (length samples) (length state.coefs) (length state.ledger) (length scratch) (length axes) (length lines) (length told) ok (sym (is-accepted is₂ e₂));
+          answered = list-lengths count lens grid knots pg pk (length samples) (length state.coefs) (length state.ledger) (length scratch) (length axes) (length lines) (length told) ok e;
           leaves = leaves;
           scratch_after = w.scratch_after ∙ ap (λ (s : State A). task_scratch count lens grid knots o upper solve axes lines s scratch) from;
           tells = w.tells ∙ ap (answers count lens grid knots o solve (task_list axes lines scratch)) from ∙ claim.same-answers;

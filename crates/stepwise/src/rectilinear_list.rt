@@ -10,12 +10,11 @@ ghost use Rattle.stepwise.specs.Rectilinear.{RectilinearOneRan, RectilinearListR
 
 use crate::rectilinear_steps::{call_ready, check_begin};
 use ledger::{check_lists, start};
-use shape::{Answer, Shape};
+use shape::{Axes, Refusal, Shape, answer_number};
 
 // Call i of a list; its answer goes into byte i.
 fn run_one(
-    count: usize,
-    dims: [usize; 4],
+    map: Axes,
     grid: &[f64],
     axes: &[usize],
     lines: &[usize],
@@ -26,23 +25,19 @@ fn run_one(
     answers: &mut [u8],
 )
     requires i_in_bounds { (i < length axes.now) × (length lines.now ≡ length axes.now) × (length answers.old ≡ length axes.now) }
-    requires scratch_value { first_refusal (call_ready_checks count dims (grid_check (take count dims) grid.now) (knots_check (take count dims) grid.now) (length coeffs.old) (length ledger.old) (length scratch.old)) ≡ 0 }
-    ensures { RectilinearOneRan binary64 count dims grid.now
+    requires scratch_value { first_refusal (call_ready_checks map.count map.dims (grid_check (take map.count map.dims) grid.now) (knots_check (take map.count map.dims) grid.now) (length coeffs.old) (length ledger.old) (length scratch.old)) ≡ 0 }
+    ensures { RectilinearOneRan binary64 map.count map.dims grid.now
         (call_of (get_or axes.now i 0) (get_or lines.now i 0) scratch.old) i
         (state_of coeffs.old ledger.old) answers.old
         (state_of coeffs.new ledger.new) scratch.new answers.new }
 {
-    let answer = call_ready(
-        count, dims, grid, axes[i], lines[i], coeffs, ledger, scratch,
-    );
-    let number = answer.number();
-    answers[i] = number as u8;
+    let answer = call_ready(map, grid, axes[i], lines[i], coeffs, ledger, scratch);
+    answers[i] = answer_number(answer) as u8;
 }
 
 // All the calls of a list, one after the other.
 fn run_list(
-    count: usize,
-    dims: [usize; 4],
+    map: Axes,
     grid: &[f64],
     axes: &[usize],
     lines: &[usize],
@@ -52,53 +47,14 @@ fn run_list(
     answers: &mut [u8],
 )
     requires lines_len { (length lines.now ≡ length axes.now) × (length answers.old ≡ length axes.now) }
-    requires scratch_value { first_refusal (call_ready_checks count dims (grid_check (take count dims) grid.now) (knots_check (take count dims) grid.now) (length coeffs.old) (length ledger.old) (length scratch.old)) ≡ 0 }
-    ensures { RectilinearListRan binary64 count dims grid.now axes.now lines.now
+    requires scratch_value { first_refusal (call_ready_checks map.count map.dims (grid_check (take map.count map.dims) grid.now) (knots_check (take map.count map.dims) grid.now) (length coeffs.old) (length ledger.old) (length scratch.old)) ≡ 0 }
+    ensures { RectilinearListRan binary64 map.count map.dims grid.now axes.now lines.now
         (state_of coeffs.old ledger.old) scratch.old
         (state_of coeffs.new ledger.new) scratch.new answers.new }
 {
     for i in 0..axes.len() {
-        run_one(
-            count, dims, grid, axes, lines, i, coeffs, ledger, scratch, answers,
-        );
+        run_one(map, grid, axes, lines, i, coeffs, ledger, scratch, answers);
     }
-}
-
-fn fit_by_list(
-    count: usize,
-    dims: [usize; 4],
-    grid: &[f64],
-    vals: &[f64],
-    axes: &[usize],
-    lines: &[usize],
-    coeffs: &mut [f64],
-    ledger: &mut [u8],
-    scratch: &mut [f64],
-    answers: &mut [u8],
-) -> Answer
-    ensures { RectilinearRan binary64 count dims grid.now vals.now axes.now lines.now
-        (state_of coeffs.old ledger.old) scratch.old answers.old (answer_number result)
-        (state_of coeffs.new ledger.new) scratch.new answers.new }
-{
-    if let Answer::Refused(refusal) = check_begin(
-        count,
-        dims,
-        grid,
-        vals.len(),
-        coeffs.len(),
-        ledger.len(),
-        scratch.len(),
-    ) {
-        return Answer::Refused(refusal);
-    }
-    if let Answer::Refused(refusal) = check_lists(axes.len(), lines.len(), answers.len()) {
-        return Answer::Refused(refusal);
-    }
-    start(vals, coeffs, ledger);
-    run_list(
-        count, dims, grid, axes, lines, coeffs, ledger, scratch, answers,
-    );
-    Answer::Accepted
 }
 
 // Begins a fit and makes a list of line calls, one after the other: call i solves line `lines[i]` of axis `axes[i]`, and its
@@ -115,14 +71,21 @@ pub fn fit_rectilinear_by_list(
     ledger: &mut [u8],
     scratch: &mut [f64],
     answers: &mut [u8],
-) -> Answer
+) -> Result<(), Refusal>
     ensures { RectilinearRan binary64 shape.count shape.dims grid.now vals.now axes.now
         lines.now (state_of coeffs.old ledger.old) scratch.old answers.old
         (answer_number result) (state_of coeffs.new ledger.new) scratch.new answers.new }
 {
-    let count = shape.count;
-    let dims = shape.dims;
-    fit_by_list(
-        count, dims, grid, vals, axes, lines, coeffs, ledger, scratch, answers,
-    )
+    let map = check_begin(
+        shape,
+        grid,
+        vals.len(),
+        coeffs.len(),
+        ledger.len(),
+        scratch.len(),
+    )?;
+    check_lists(axes.len(), lines.len(), answers.len())?;
+    start(vals, coeffs, ledger);
+    run_list(map, grid, axes, lines, coeffs, ledger, scratch, answers);
+    Ok(())
 }

@@ -2,70 +2,57 @@
 ghost use Rattle.std.specs.Prelude.{◌≡◌, [], length};
 ghost use Rattle.std.specs.Float.{binary64};
 ghost use Rattle.shape.specs.Checks.{first_refusal};
+ghost use Rattle.shape.specs.Axes.{AxesOnce};
 ghost use Rattle.shape.specs.Refusal.{answer_number};
 ghost use Rattle.ledger.specs.Ready.{ready_checks, call_ready_checks};
 ghost use Rattle.book.specs.LineCall.{begin_answer, call_of, state_of};
 ghost use Rattle.stepwise.specs.Regular.{RegularBegun, RegularLineCalled};
 
-use ledger::{Due, bump_line, check_held, check_lent, check_scratch, find_due, start};
+use ledger::{bump_line, check_held, check_lent, check_scratch, find_due, start};
 use regular_lines::solve_checked;
-use shape::{Answer, Shape};
+use shape::{Axes, Refusal, Shape};
 
 // ---- what begin and the line call check first
 
 // The shape, and the lengths of the coefficients and the ledger.
-fn check_ready(count: usize, dims: [usize; 4], coeffs: usize, ledger: usize) -> Answer
-    ensures { answer_number result ≡ first_refusal (ready_checks count dims [] [] coeffs ledger) }
+fn check_ready(shape: Shape, coeffs: usize, ledger: usize) -> Result<Axes, Refusal>
+    ensures { AxesOnce (first_refusal (ready_checks shape.count shape.dims [] [] coeffs ledger)) shape.count shape.dims result }
 {
-    let shape = Shape { count, dims };
-    if let Answer::Refused(refusal) = shape.check() {
-        return Answer::Refused(refusal);
-    }
-    check_held(count, dims, coeffs, ledger)
+    let axes = shape.axes()?;
+    check_held(axes, coeffs, ledger)?;
+    Ok(axes)
 }
 
 // ---- begin
 
 // The checks of begin, from the lengths of its buffers.
 pub fn check_begin(
-    count: usize,
-    dims: [usize; 4],
+    shape: Shape,
     vals: usize,
     coeffs: usize,
     ledger: usize,
     scratch: usize,
-) -> Answer
-    ensures { answer_number result ≡ begin_answer count dims [] [] vals coeffs ledger scratch }
+) -> Result<Axes, Refusal>
+    ensures { AxesOnce (begin_answer shape.count shape.dims [] [] vals coeffs ledger scratch) shape.count shape.dims result }
 {
-    if let Answer::Refused(refusal) = check_ready(count, dims, coeffs, ledger) {
-        return Answer::Refused(refusal);
-    }
-    check_lent(count, dims, vals, scratch)
+    let axes = check_ready(shape, coeffs, ledger)?;
+    check_lent(axes, vals, scratch)?;
+    Ok(axes)
 }
 
 // Begins a stepwise fit, with scratch by its length: begin writes nothing to it.
 pub fn begin_regular_by_len(
-    count: usize,
-    dims: [usize; 4],
+    shape: Shape,
     vals: &[f64],
     coeffs: &mut [f64],
     ledger: &mut [u8],
     scratch: usize,
-) -> Answer
-    ensures { RegularBegun count dims vals.now (state_of coeffs.old ledger.old) scratch (answer_number result) (state_of coeffs.new ledger.new) }
+) -> Result<(), Refusal>
+    ensures { RegularBegun shape.count shape.dims vals.now (state_of coeffs.old ledger.old) scratch (answer_number result) (state_of coeffs.new ledger.new) }
 {
-    if let Answer::Refused(refusal) = check_begin(
-        count,
-        dims,
-        vals.len(),
-        coeffs.len(),
-        ledger.len(),
-        scratch,
-    ) {
-        return Answer::Refused(refusal);
-    }
+    check_begin(shape, vals.len(), coeffs.len(), ledger.len(), scratch)?;
     start(vals, coeffs, ledger);
-    Answer::Accepted
+    Ok(())
 }
 
 // Begins a stepwise fit: the samples are copied to `coeffs`, and the ledger is zeroed. `vals`, `coeffs` and `ledger` have one
@@ -79,63 +66,49 @@ pub fn begin_regular(
     coeffs: &mut [f64],
     ledger: &mut [u8],
     scratch: &[f64],
-) -> Answer
+) -> Result<(), Refusal>
     ensures { RegularBegun shape.count shape.dims vals.now (state_of coeffs.old ledger.old)
         (length scratch.now) (answer_number result) (state_of coeffs.new ledger.new) }
 {
-    let count = shape.count;
-    let dims = shape.dims;
-    begin_regular_by_len(count, dims, vals, coeffs, ledger, scratch.len())
+    begin_regular_by_len(shape, vals, coeffs, ledger, scratch.len())
 }
 
 // ---- the line call
 
 // All that a line call checks but the line itself, from the lengths of its buffers.
-fn check_call(
-    count: usize,
-    dims: [usize; 4],
-    coeffs: usize,
-    ledger: usize,
-    scratch: usize,
-) -> Answer
-    ensures { answer_number result ≡ first_refusal (call_ready_checks count dims [] [] coeffs ledger scratch) }
+fn check_call(shape: Shape, coeffs: usize, ledger: usize, scratch: usize) -> Result<Axes, Refusal>
+    ensures { AxesOnce (first_refusal (call_ready_checks shape.count shape.dims [] [] coeffs ledger scratch)) shape.count shape.dims result }
 {
-    if let Answer::Refused(refusal) = check_ready(count, dims, coeffs, ledger) {
-        return Answer::Refused(refusal);
-    }
-    check_scratch(count, dims, scratch)
+    let axes = check_ready(shape, coeffs, ledger)?;
+    check_scratch(axes, scratch)?;
+    Ok(axes)
 }
 
 // A line call whose other checks have passed: what is left to check is the line.
 pub fn call_ready(
-    count: usize,
-    dims: [usize; 4],
+    axes: Axes,
     axis: usize,
     line: usize,
     coeffs: &mut [f64],
     ledger: &mut [u8],
     scratch: &mut [f64],
-) -> Answer
-    requires { first_refusal (call_ready_checks count dims [] [] (length coeffs.old) (length ledger.old) (length scratch.old)) ≡ 0 }
-    ensures { RegularLineCalled binary64 count dims (call_of axis line scratch.old)
+) -> Result<(), Refusal>
+    requires { first_refusal (call_ready_checks axes.count axes.dims [] [] (length coeffs.old) (length ledger.old) (length scratch.old)) ≡ 0 }
+    ensures { RegularLineCalled binary64 axes.count axes.dims (call_of axis line scratch.old)
         (state_of coeffs.old ledger.old) (answer_number result)
         (state_of coeffs.new ledger.new) scratch.new }
 {
-    match find_due(count, dims, axis, line, ledger) {
-        Due::At(found) => {
-            solve_checked(
-                found.base,
-                found.stride,
-                found.n,
-                found.longest,
-                coeffs,
-                scratch,
-            );
-            bump_line(axis, found, ledger);
-            Answer::Accepted
-        }
-        Due::Refused(refusal) => Answer::Refused(refusal),
-    }
+    let found = find_due(axes, axis, line, ledger)?;
+    solve_checked(
+        found.base,
+        found.stride,
+        found.n,
+        found.longest,
+        coeffs,
+        scratch,
+    );
+    bump_line(axis, found, ledger);
+    Ok(())
 }
 
 // Solves one line that is due: its cells of `coeffs` become its coefficients, and 1 is added to its ledger bytes. No other
@@ -151,21 +124,11 @@ pub fn solve_regular_line(
     coeffs: &mut [f64],
     ledger: &mut [u8],
     scratch: &mut [f64],
-) -> Answer
+) -> Result<(), Refusal>
     ensures { RegularLineCalled binary64 shape.count shape.dims (call_of axis line scratch.old)
         (state_of coeffs.old ledger.old) (answer_number result)
         (state_of coeffs.new ledger.new) scratch.new }
 {
-    let count = shape.count;
-    let dims = shape.dims;
-    if let Answer::Refused(refusal) = check_call(
-        count,
-        dims,
-        coeffs.len(),
-        ledger.len(),
-        scratch.len(),
-    ) {
-        return Answer::Refused(refusal);
-    }
-    call_ready(count, dims, axis, line, coeffs, ledger, scratch)
+    let axes = check_call(shape, coeffs.len(), ledger.len(), scratch.len())?;
+    call_ready(axes, axis, line, coeffs, ledger, scratch)
 }

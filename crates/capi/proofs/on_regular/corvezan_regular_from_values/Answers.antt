@@ -12,11 +12,20 @@ returns-then-refused-ne0 c =
     let e = refused-some (grid_ready_checks a.dims.now a.grid.now) _ _ told c.if-refused-ne0.true in
     record { answers = refused-some (fit_checks a.dims.now a.grid.now (length a.vals.now) (length a.coeffs.now) (length a.scratch.now)) _ _ e c.if-refused-ne0.true; fits = fitted-nothing c.if-refused-ne0.true e }
 
-pub returns : goal.returns
-returns c =
+pub returns-in-Ok : goal.returns-in-Ok
+returns-in-Ok c =
     let a = c.args in
     let told = c.number-refused.ensures ∙ c.check_grid.ensures in
     record {
-      answers = c.number.ensures ∙ (rw (c.shape_of-shape.ensures, c.four_from-steps.ensures) at c.from_values_with_workspace-built.ensures.regular_built.answers) ∙ sym (values-dropped a.dims.now a.grid.now told c.if-refused-ne0.false (length a.vals.now) (length a.coeffs.now) (length a.scratch.now));
-      fits = rw (fit-dropped a.dims.now a.grid.now told c.if-refused-ne0.false (length a.vals.now) (length a.coeffs.now) (length a.scratch.now)) (rw c.shape_of-shape.ensures at c.from_values_with_workspace-built.ensures.regular_fit_leaves);
+      answers = (rw (c.shape_of-shape.ensures, c.four_from-steps.ensures) at c.in-Ok.ensures.regular_built.answers) ∙ sym (values-dropped a.dims.now a.grid.now told c.if-refused-ne0.false (length a.vals.now) (length a.coeffs.now) (length a.scratch.now));
+      fits = rw (fit-dropped a.dims.now a.grid.now told c.if-refused-ne0.false (length a.vals.now) (length a.coeffs.now) (length a.scratch.now)) (rw c.shape_of-shape.ensures at c.in-Ok.ensures.regular_fit_leaves);
+    }
+
+pub returns-in-Err : goal.returns-in-Err
+returns-in-Err c =
+    let a = c.args in
+    let told = c.number-refused.ensures ∙ c.check_grid.ensures in
+    record {
+      answers = c.number.ensures ∙ (rw (c.shape_of-shape.ensures, c.four_from-steps.ensures) at c.in-Err.ensures.regular_built.answers) ∙ sym (values-dropped a.dims.now a.grid.now told c.if-refused-ne0.false (length a.vals.now) (length a.coeffs.now) (length a.scratch.now));
+      fits = rw (fit-dropped a.dims.now a.grid.now told c.if-refused-ne0.false (length a.vals.now) (length a.coeffs.now) (length a.scratch.now)) (rw c.shape_of-shape.ensures at c.in-Err.ensures.regular_fit_leaves);
     }

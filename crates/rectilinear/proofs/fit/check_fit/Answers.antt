@@ -1,38 +1,41 @@
 use mathlib.Core.Path.{ap, sym, ◌∙◌}
 use mathlib.Core.Bool.{not}
 use native.Mathlib.Omega.{arith}
-use Rattle.shape.proofs.Accepted.{told-accepted, usable, axes-are}
+use Rattle.shape.proofs.Exit.{err-is}
+use Rattle.shape.proofs.Accepted.{usable, axes-are}
 use Rattle.rectilinear.proofs.FitChecks.{fit-shape, fit-grid, fit-coefs, fit-knots, fit-samples, fit-scratch, fit_passed}
 use Rattle.rectilinear.proofs.fit.check_fit.Goals as goal
 
-pub returns-in-Refused : goal.returns-in-Refused
-returns-in-Refused c = fit-shape _ _ _ _ _ _ c.in-Refused.is c.check.ensures
+pub returns-in_err-check : goal.returns-in_err-check
+returns-in_err-check c =
+    rw (err-is {e = c.in_err-check.field-0.0} c.from_residual.result c.from_residual.ensures.1)
+    (fit-shape _ _ _ _ _ _ _ c.in_err-check.ensures)
 
 pub grid_len-requires : goal.grid_len-requires
 grid_len-requires c =
     let a = c.args in
-    usable a.count a.dims (omega (arith, c.well_formed)) (told-accepted a.count a.dims c.in_default.is c.check.ensures)
+    usable a.count a.dims (omega (arith, c.well_formed)) (sym c.in_ok-check.ensures)
 
 pub returns-then-knots-grid_len : goal.returns-then-knots-grid_len
 returns-then-knots-grid_len c =
-    let ok = told-accepted c.args.count c.args.dims c.in_default.is c.check.ensures in
+    let ok = sym c.in_ok-check.ensures in
     fit-grid _ _ _ _ _ _ ok (λ z. c.if-knots-grid_len.true (z ∙ sym c.grid_len.ensures))
 
 pub returns-then-coeffs-coeff_storage_len : goal.returns-then-coeffs-coeff_storage_len
 returns-then-coeffs-coeff_storage_len c =
-    let ok = told-accepted c.args.count c.args.dims c.in_default.is c.check.ensures in
+    let ok = sym c.in_ok-check.ensures in
     fit-coefs _ _ _ _ _ _ ok (c.if-knots-grid_len.false ∙ c.grid_len.ensures) (λ z. c.if-coeffs-coeff_storage_len.true (z ∙ sym c.coeff_storage_len.ensures))
 
 pub all_rise-requires : goal.all_rise-requires
 all_rise-requires c =
     let a = c.args in
-    let ok = told-accepted a.count a.dims c.in_default.is c.check.ensures in
+    let ok = sym c.in_ok-check.ensures in
     (usable a.count a.dims (omega (arith, c.well_formed)) ok, c.if-knots-grid_len.false ∙ c.grid_len.ensures)
 
 pub returns-then-not-all_rise : goal.returns-then-not-all_rise
 returns-then-not-all_rise c =
     let a = c.args in
-    let ok = told-accepted a.count a.dims c.in_default.is c.check.ensures in
+    let ok = sym c.in_ok-check.ensures in
     let axes = axes-are a.count a.dims (omega (arith, c.well_formed)) (usable a.count a.dims (omega (arith, c.well_formed)) ok) in
     let joined = c.if-knots-grid_len.false ∙ c.grid_len.ensures in
     let same = c.if-coeffs-coeff_storage_len.false ∙ c.coeff_storage_len.ensures in
@@ -41,7 +44,7 @@ returns-then-not-all_rise c =
 pub returns-then-vals-coeff_storage_len : goal.returns-then-vals-coeff_storage_len
 returns-then-vals-coeff_storage_len c =
     let a = c.args in
-    let ok = told-accepted a.count a.dims c.in_default.is c.check.ensures in
+    let ok = sym c.in_ok-check.ensures in
     let axes = axes-are a.count a.dims (omega (arith, c.well_formed)) (usable a.count a.dims (omega (arith, c.well_formed)) ok) in
     let joined = c.if-knots-grid_len.false ∙ c.grid_len.ensures in
     let same = c.if-coeffs-coeff_storage_len.false ∙ c.coeff_storage_len.ensures in
@@ -51,7 +54,7 @@ returns-then-vals-coeff_storage_len c =
 pub returns-then-scratch-construction_scratch_len : goal.returns-then-scratch-construction_scratch_len
 returns-then-scratch-construction_scratch_len c =
     let a = c.args in
-    let ok = told-accepted a.count a.dims c.in_default.is c.check.ensures in
+    let ok = sym c.in_ok-check.ensures in
     let axes = axes-are a.count a.dims (omega (arith, c.well_formed)) (usable a.count a.dims (omega (arith, c.well_formed)) ok) in
     let joined = c.if-knots-grid_len.false ∙ c.grid_len.ensures in
     let same = c.if-coeffs-coeff_storage_len.false ∙ c.coeff_storage_len.ensures in
@@ -62,7 +65,7 @@ returns-then-scratch-construction_scratch_len c =
 pub returns : goal.returns
 returns c =
     let a = c.args in
-    let ok = told-accepted a.count a.dims c.in_default.is c.check.ensures in
+    let ok = sym c.in_ok-check.ensures in
     let axes = axes-are a.count a.dims (omega (arith, c.well_formed)) (usable a.count a.dims (omega (arith, c.well_formed)) ok) in
     let joined = c.if-knots-grid_len.false ∙ c.grid_len.ensures in
     let same = c.if-coeffs-coeff_storage_len.false ∙ c.coeff_storage_len.ensures in

@@ -1,19 +1,22 @@
 use lib.ListN.{length}
+use Rattle.shape.proofs.Exit.{err-is}
 use Rattle.shape.proofs.Fitted.{fitted-refused, fitted-accepted}
 use Rattle.multibspline.proofs.Line.{line-fits}
 use Rattle.rectilinear_lines.proofs.line.solve_line.Goals as goal
 
-pub returns-in-Refused : goal.returns-in-Refused
-returns-in-Refused c = fitted-refused c.in-Refused.is c.check_line.ensures
+pub returns-in_err-check_line : goal.returns-in_err-check_line
+returns-in_err-check_line c =
+    rw (err-is {e = c.in_err-check_line.field-0.0} c.from_residual.result c.from_residual.ensures.1)
+    (fitted-refused _ c.in_err-check_line.ensures)
 
 pub solve_checked-requires-clause-in_bounds : goal.solve_checked-requires-clause-in_bounds
 solve_checked-requires-clause-in_bounds c =
-    let a = c.args in (line-fits a.base a.stride (length a.grid.now) a.longest (length a.coeffs.now) (length a.scratch.now) c.in_default.is c.check_line.ensures).0
+    let a = c.args in (line-fits a.base a.stride (length a.grid.now) a.longest (length a.coeffs.now) (length a.scratch.now) c.in_ok-check_line.ensures).0
 
 pub solve_checked-requires-clause-grid_len_bound : goal.solve_checked-requires-clause-grid_len_bound
 solve_checked-requires-clause-grid_len_bound c =
-    let a = c.args in (line-fits a.base a.stride (length a.grid.now) a.longest (length a.coeffs.now) (length a.scratch.now) c.in_default.is c.check_line.ensures).1
+    let a = c.args in (line-fits a.base a.stride (length a.grid.now) a.longest (length a.coeffs.now) (length a.scratch.now) c.in_ok-check_line.ensures).1
 
 pub returns : goal.returns
 returns c =
-    fitted-accepted c.in_default.is c.check_line.ensures c.solve_checked.ensures.coeffs_after c.solve_checked.ensures.scratch_after
+    fitted-accepted c.in_ok-check_line.ensures c.solve_checked.ensures.coeffs_after c.solve_checked.ensures.scratch_after

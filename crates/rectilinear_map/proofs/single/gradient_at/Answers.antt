@@ -13,7 +13,7 @@ gradients_block-good-requires-clause-room c =
     let few = c.requires.0.0.shape.at-most-four in (record { block = omega arith; batch = omega arith; coordinates = omega (arith, c.requires.2); in-spots = omega (arith, few); in-work = omega (arith, few) }, omega (arith, few))
 
 pub returns-then-good-lt1 : goal.returns-then-good-lt1
-returns-then-good-lt1 c = single-gradient-refused _ _ c.gradients_block-good.ensures c.if-good-lt1.true c.refused_gradient.ensures.0 c.refused_gradient.ensures.1
+returns-then-good-lt1 c = single-gradient-refused _ _ c.gradients_block-good.ensures c.if-good-lt1.true
 
 pub returns : goal.returns
 unfolding of_bits

@@ -2,6 +2,7 @@ use native.Mathlib.Omega.{arith}
 use lib.ListN.{length}
 use lib.Ieee.{binary64}
 use borrow.Author.Rules.{rules}
+use Rattle.shape.proofs.Exit.{err-is}
 use Rattle.shape.specs.declared.answers.Refusal.TheVariants.{DimensionMismatch}
 use Rattle.evaluation.proofs.Batches.{batch-refused, batch-entries, batch-small}
 use Rattle.evaluation.proofs.Outcomes.{batch-checks, batch-length, batch-passed}
@@ -10,28 +11,29 @@ use Rattle.regular_blocks.specs.Checks.{map_answer}
 use Rattle.regular_map.proofs.Steps.{map-numbered, map-usable, map-sized}
 use Rattle.regular_map.proofs.batch.values.Goals as goal
 
-pub returns-in-Refused : goal.returns-in-Refused
+pub returns-in_err-check_map : goal.returns-in_err-check_map
 unfolding map_answer
-returns-in-Refused c =
+returns-in_err-check_map c =
+    rw (err-is {e = c.in_err-check_map.field-0.0} c.from_residual.result c.from_residual.ensures.1) (
     let a = c.args in
-    batch-refused c.in-Refused.refusal (batch-checks _ (length a.xs.now) (length a.out.now) c.in-Refused.is c.check_map.ensures)
+    batch-refused _ (batch-checks _ (length a.xs.now) (length a.out.now) _ c.in_err-check_map.ensures))
 
 pub overflow_mul-map : goal.overflow_mul-map
 overflow_mul-map c =
     let m = c.args.map in
-    let u = map-usable m.count m.dims m.steps _ c.in_default.is c.check_map.ensures (search rules) in
+    let u = map-usable m.count m.dims m.steps _ c.in_ok-check_map.ensures (search rules) in
     record { fits = batch-small m.count (length c.args.out.now) u.at-most-four (omega (arith, c.well_formed)) }
 
 pub returns-then-xs-map : goal.returns-then-xs-map
 unfolding map_answer
 returns-then-xs-map c =
     let a = c.args in
-    batch-refused DimensionMismatch (batch-length _ (length a.xs.now) (length a.out.now) (map-numbered a.map.count a.map.dims a.map.steps (length a.coeffs.now)) c.in_default.is c.check_map.ensures c.if-xs-map.true)
+    batch-refused DimensionMismatch (batch-length _ (length a.xs.now) (length a.out.now) (map-numbered a.map.count a.map.dims a.map.steps (length a.coeffs.now)) c.in_ok-check_map.ensures c.if-xs-map.true)
 
 pub grid_of-requires : goal.grid_of-requires
 grid_of-requires c =
     let m = c.args.map in
-    map-usable m.count m.dims m.steps _ c.in_default.is c.check_map.ensures (search rules)
+    map-usable m.count m.dims m.steps _ c.in_ok-check_map.ensures (search rules)
 
 pub put_values-requires : goal.put_values-requires
 put_values-requires c =
@@ -39,11 +41,11 @@ put_values-requires c =
     let m = a.map in
     let r = c.grid_of.result in
     let g = c.grid_of.ensures in
-    (g.0, same_size r g.1 (map-sized m.count m.dims m.steps _ c.in_default.is c.check_map.ensures), rw (same_count r g.1) (omega (arith, c.if-xs-map.false)), omega arith)
+    (g.0, same_size r g.1 (map-sized m.count m.dims m.steps _ c.in_ok-check_map.ensures), rw (same_count r g.1) (omega (arith, c.if-xs-map.false)), omega arith)
 
 pub returns : goal.returns
 unfolding map_answer
 returns c =
     let a = c.args in
     let g = c.grid_of in
-    batch-entries (batch-passed _ (length a.xs.now) (length a.out.now) (map-numbered a.map.count a.map.dims a.map.steps (length a.coeffs.now)) c.in_default.is c.check_map.ensures c.if-xs-map.false) (same-values g.result g.ensures.1 binary64 a.coeffs.now a.xs.now (length a.out.now) c.put_values.ensures)
+    batch-entries (batch-passed _ (length a.xs.now) (length a.out.now) (map-numbered a.map.count a.map.dims a.map.steps (length a.coeffs.now)) c.in_ok-check_map.ensures c.if-xs-map.false) (same-values g.result g.ensures.1 binary64 a.coeffs.now a.xs.now (length a.out.now) c.put_values.ensures)

@@ -1,10 +1,11 @@
+use Rattle.shape.proofs.Exit.{err-is}
 use Rattle.evaluation.proofs.Builds.{built-refused, built-accepted}
 use Rattle.regular_map.proofs.build.build.Goals as goal
 
-pub returns-in-Refused : goal.returns-in-Refused
-returns-in-Refused c =
-    built-refused c.check_map.ensures c.in-Refused.is c.refused.ensures.0 c.refused.ensures.1
+pub returns-in_err-check_map : goal.returns-in_err-check_map
+returns-in_err-check_map c =
+    rw (err-is {e = c.in_err-check_map.field-0.0} c.from_residual.result c.from_residual.ensures.1)
+    (built-refused _ c.in_err-check_map.ensures)
 
 pub returns : goal.returns
-returns c =
-    built-accepted c.check_map.ensures c.in_default.is c.accepted.ensures.0 c.accepted.ensures.1
+returns c = built-accepted c.in_ok-check_map.ensures c.accepted.ensures

@@ -1,24 +1,26 @@
 use native.Mathlib.Omega.{arith}
 use lib.Ieee.{binary64}
+use Rattle.shape.proofs.Exit.{err-is}
 use Rattle.regular_map.proofs.Steps.{map-usable}
 use Rattle.regular_map.proofs.Placing.{record-refused, record-passed, placed-refused, placed-no-axis, placed_at, placed-nowhere}
 use Rattle.regular_map.proofs.place.place.Goals as goal
 
-pub returns-in-Refused : goal.returns-in-Refused
-returns-in-Refused c =
+pub returns-in_err-check_map : goal.returns-in_err-check_map
+returns-in_err-check_map c =
+    rw (err-is {e = c.in_err-check_map.field-0.0} c.from_residual.result c.from_residual.ensures.1) (
     let a = c.args in
-    placed-refused binary64 a.count a.dims a.starts a.steps a.axis a.x c.in-Refused.refusal
-    (record-refused a.count a.dims a.steps c.coeff_storage_len.ensures c.in-Refused.is c.check_map.ensures)
+    placed-refused binary64 a.count a.dims a.starts a.steps a.axis a.x _
+    (record-refused a.count a.dims a.steps c.coeff_storage_len.ensures _ c.in_err-check_map.ensures))
 
 pub returns-then-count-axis : goal.returns-then-count-axis
 returns-then-count-axis c =
     let a = c.args in
     placed-no-axis binary64 a.count a.dims a.starts a.steps a.axis a.x
-    (record-passed a.count a.dims a.steps c.coeff_storage_len.ensures c.in_default.is c.check_map.ensures) c.if-count-axis.true
+    (record-passed a.count a.dims a.steps c.coeff_storage_len.ensures c.in_ok-check_map.ensures) c.if-count-axis.true
 
 pub bounds-dims-axis : goal.bounds-dims-axis
 bounds-dims-axis c =
-    let u = map-usable c.args.count c.args.dims c.args.steps _ c.in_default.is c.check_map.ensures (omega (arith, c.well_formed)) in
+    let u = map-usable c.args.count c.args.dims c.args.steps _ c.in_ok-check_map.ensures (omega (arith, c.well_formed)) in
     omega (arith, c.if-count-axis.false, u.at-most-four)
 
 pub offset_bounds-dims-axis : goal.offset_bounds-dims-axis
@@ -26,39 +28,39 @@ offset_bounds-dims-axis c = let i = bounds-dims-axis c in omega arith
 
 pub offset_bounds-starts-axis : goal.offset_bounds-starts-axis
 offset_bounds-starts-axis c =
-    let u = map-usable c.args.count c.args.dims c.args.steps _ c.in_default.is c.check_map.ensures (omega (arith, c.well_formed)) in
+    let u = map-usable c.args.count c.args.dims c.args.steps _ c.in_ok-check_map.ensures (omega (arith, c.well_formed)) in
     omega (arith, c.if-count-axis.false, u.at-most-four)
 
 pub bounds-starts-axis : goal.bounds-starts-axis
 bounds-starts-axis c =
-    let u = map-usable c.args.count c.args.dims c.args.steps _ c.in_default.is c.check_map.ensures (omega (arith, c.well_formed)) in
+    let u = map-usable c.args.count c.args.dims c.args.steps _ c.in_ok-check_map.ensures (omega (arith, c.well_formed)) in
     omega (arith, c.if-count-axis.false, u.at-most-four)
 
 pub offset_bounds-steps-axis : goal.offset_bounds-steps-axis
 offset_bounds-steps-axis c =
-    let u = map-usable c.args.count c.args.dims c.args.steps _ c.in_default.is c.check_map.ensures (omega (arith, c.well_formed)) in
+    let u = map-usable c.args.count c.args.dims c.args.steps _ c.in_ok-check_map.ensures (omega (arith, c.well_formed)) in
     omega (arith, c.if-count-axis.false, u.at-most-four)
 
 pub bounds-steps-axis : goal.bounds-steps-axis
 bounds-steps-axis c =
-    let u = map-usable c.args.count c.args.dims c.args.steps _ c.in_default.is c.check_map.ensures (omega (arith, c.well_formed)) in
+    let u = map-usable c.args.count c.args.dims c.args.steps _ c.in_ok-check_map.ensures (omega (arith, c.well_formed)) in
     omega (arith, c.if-count-axis.false, u.at-most-four)
 
 pub get_loc-requires : goal.get_loc-requires
 get_loc-requires c =
-    let u = map-usable c.args.count c.args.dims c.args.steps _ c.in_default.is c.check_map.ensures (omega (arith, c.well_formed)) in
+    let u = map-usable c.args.count c.args.dims c.args.steps _ c.in_ok-check_map.ensures (omega (arith, c.well_formed)) in
     u.four-points c.args.axis c.if-count-axis.false
 
 pub returns-in-At : goal.returns-in-At
 returns-in-At c =
     let a = c.args in
     placed_at binary64 a.count a.dims a.starts a.steps a.axis a.x
-    (record-passed a.count a.dims a.steps c.coeff_storage_len.ensures c.in_default.is c.check_map.ensures)
+    (record-passed a.count a.dims a.steps c.coeff_storage_len.ensures c.in_ok-check_map.ensures)
     c.if-count-axis.false c.get_loc.ensures c.in-At.is
 
 pub returns-in-Unrepresentable : goal.returns-in-Unrepresentable
 returns-in-Unrepresentable c =
     let a = c.args in
     placed-nowhere binary64 a.count a.dims a.starts a.steps a.axis a.x
-    (record-passed a.count a.dims a.steps c.coeff_storage_len.ensures c.in_default.is c.check_map.ensures)
+    (record-passed a.count a.dims a.steps c.coeff_storage_len.ensures c.in_ok-check_map.ensures)
     c.if-count-axis.false c.get_loc.ensures c.in-Unrepresentable.is

@@ -1,13 +1,13 @@
-use mathlib.Core.Path.{◌≡◌}
-use mathlib.Core.Bool.{false}
-use Prim.Native.Nat.{◌≤◌, ◌<◌, ◌-◌, ◌*◌}
-use lib.ListN.{take, drop}
-use Rattle.shape.specs.Checks.{any_short}
+use Rattle.std.proofs.Common.{◌≡◌, false, ◌<◌, ◌≤◌, ◌*◌}
+use lib.ListN.{drop}
+use Rattle.shape.specs.Checks.{any_short, most_points}
 use Rattle.shape.specs.Shape.{product}
 use Rattle.shape.proofs.spans.points_to_limit.Given as goal
 
-abbrev pub invariant-loop-i : goal.invariant-loop-i
-invariant-loop-i l = (l.i ≤ l.count) × ((0 < l.total) × (l.total ≤ 16777216)) × (product (take l.count l.dims) ≡ l.total * product (drop l.i (take l.count l.dims))) × (any_short (drop l.i (take l.count l.dims)) ≡ false)
-
-abbrev pub decreases-loop-i : goal.decreases-loop-i
-decreases-loop-i l = l.count - l.i
+abbrev pub invariant-loop-n : goal.invariant-loop-n
+invariant-loop-n l = record {
+  above_zero : 0 < l.total;
+  few : l.total ≤ most_points;
+  product_is : l.total * product (drop l.n-index l.dims) ≡ product l.dims;
+  none_short : any_short (drop l.n-index l.dims) ≡ false;
+}

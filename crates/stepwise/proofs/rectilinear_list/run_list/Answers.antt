@@ -21,7 +21,7 @@ run_one-requires-clause-scratch_value c =
 pub loop-i-preserved : goal.loop-i-preserved
 loop-i-preserved c =
     let a = c.args in
-    run_step a.count a.dims (grid_check (take a.count a.dims) a.grid.now) (knots_check (take a.count a.dims) a.grid.now) nan _ _ c.loop-i.invariant c.loop-i-test.true c.requires.lines_len.0 c.requires.lines_len.1 c.run_one.ensures
+    run_step a.map.count a.map.dims (grid_check (take a.map.count a.map.dims) a.grid.now) (knots_check (take a.map.count a.map.dims) a.grid.now) nan _ _ c.loop-i.invariant c.loop-i-test.true c.requires.lines_len.0 c.requires.lines_len.1 c.run_one.ensures
 
 pub shape_of-coeffs : goal.shape_of-coeffs
 shape_of-coeffs c = c.loop-i.invariant.same-coefs
@@ -38,4 +38,4 @@ shape_of-answers c = c.loop-i.invariant.same-told
 pub returns : goal.returns
 returns c =
     let a = c.args in
-    run-done a.count a.dims (grid_check (take a.count a.dims) a.grid.now) (knots_check (take a.count a.dims) a.grid.now) nan _ _ c.loop-i.invariant c.loop-i-test.false c.requires.lines_len.1
+    run-done a.map.count a.map.dims (grid_check (take a.map.count a.map.dims) a.grid.now) (knots_check (take a.map.count a.map.dims) a.grid.now) nan _ _ c.loop-i.invariant c.loop-i-test.false c.requires.lines_len.1

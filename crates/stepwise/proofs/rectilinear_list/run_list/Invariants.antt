@@ -7,7 +7,7 @@ use Rattle.stepwise.proofs.Runs.{RunTo}
 use Rattle.stepwise.proofs.rectilinear_list.run_list.Given as goal
 
 abbrev pub invariant-loop-i : goal.invariant-loop-i
-invariant-loop-i l = RunTo l.count l.dims (grid_check (take l.count l.dims) l.grid) (knots_check (take l.count l.dims) l.grid) nan (upper binary64 l.grid (take l.count l.dims)) (solve binary64 l.grid (take l.count l.dims)) l.axes l.lines (record { coefs = l.initial.coeffs; ledger = l.initial.ledger }) l.initial.scratch l.initial.answers
+invariant-loop-i l = RunTo l.map.count l.map.dims (grid_check (take l.map.count l.map.dims) l.grid) (knots_check (take l.map.count l.map.dims) l.grid) nan (upper binary64 l.grid (take l.map.count l.map.dims)) (solve binary64 l.grid (take l.map.count l.map.dims)) l.axes l.lines (record { coefs = l.initial.coeffs; ledger = l.initial.ledger }) l.initial.scratch l.initial.answers
     (record { coefs = l.coeffs; ledger = l.ledger }) l.scratch l.answers l.i
 
 abbrev pub decreases-loop-i : goal.decreases-loop-i

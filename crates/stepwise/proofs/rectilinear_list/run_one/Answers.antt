@@ -5,7 +5,7 @@ use Rattle.stepwise.proofs.Runs.{one-ran}
 use Rattle.stepwise.proofs.rectilinear_list.run_one.Goals as goal
 
 pub overflow_cast-answers : goal.overflow_cast-answers
-overflow_cast-answers c = omega (arith, c.number-number.ensures, answer-small c.call_ready-answer.result)
+overflow_cast-answers c = omega (arith, c.answer_number.ensures, answer-small c.call_ready-answer.result)
 
 pub returns : goal.returns
-returns c = one-ran c.call_ready-answer.ensures c.number-number.ensures refl
+returns c = one-ran c.call_ready-answer.ensures c.answer_number.ensures refl

@@ -1,23 +1,26 @@
+use mathlib.Core.Path.{sym}
 use lib.ListN.{take}
-use native.Mathlib.Omega.{arith}
-use Rattle.shape.proofs.Accepted.{usable}
 use Rattle.knots.specs.Checks.{grid_check, knots_check}
-use Rattle.ledger.proofs.Stages.{is-accepted, ready-passed, call-ready-is, not-ready, then-last}
 use Rattle.stepwise.proofs.Rectilinear.{grid-positive, knots-positive}
+use Rattle.shape.proofs.Exit.{err-is}
+use Rattle.ledger.proofs.Stages.{call-ready-is, not-ready, then-last}
 use Rattle.stepwise.proofs.rectilinear_steps.check_call.Goals as goal
 
-pub returns-in-Refused : goal.returns-in-Refused
-returns-in-Refused c =
+pub returns-in_err-axes : goal.returns-in_err-axes
+returns-in_err-axes c =
     let a = c.args in
-    not-ready a.count a.dims (grid_check (take a.count a.dims) a.grid.now) (knots_check (take a.count a.dims) a.grid.now) a.coeffs a.ledger (grid-positive (take a.count a.dims) a.grid.now) (knots-positive (take a.count a.dims) a.grid.now) _ (call-ready-is a.count a.dims (grid_check (take a.count a.dims) a.grid.now) (knots_check (take a.count a.dims) a.grid.now) a.coeffs a.ledger a.scratch) c.check_ready.ensures c.in-Refused.is
+    rw (err-is {e = c.in_err-axes.field-0.0} c.from_residual.result c.from_residual.ensures.1)
+    (not-ready a.shape.count a.shape.dims (grid_check (take a.shape.count a.shape.dims) a.grid.now) (knots_check (take a.shape.count a.shape.dims) a.grid.now) a.coeffs a.ledger (grid-positive (take a.shape.count a.shape.dims) a.grid.now) (knots-positive (take a.shape.count a.shape.dims) a.grid.now) _ (call-ready-is a.shape.count a.shape.dims (grid_check (take a.shape.count a.shape.dims) a.grid.now) (knots_check (take a.shape.count a.shape.dims) a.grid.now) a.coeffs a.ledger a.scratch) _ c.in_err-axes.ensures)
 
-pub check_scratch-requires : goal.check_scratch-requires
-check_scratch-requires c =
+pub returns-in_err-check_scratch : goal.returns-in_err-check_scratch
+returns-in_err-check_scratch c =
     let a = c.args in
-    let p = ready-passed a.count a.dims (grid_check (take a.count a.dims) a.grid.now) (knots_check (take a.count a.dims) a.grid.now) a.coeffs a.ledger (grid-positive (take a.count a.dims) a.grid.now) (knots-positive (take a.count a.dims) a.grid.now) (is-accepted c.in_default.is c.check_ready.ensures) in
-    usable a.count a.dims (omega (arith, c.well_formed)) p.0.shape-passed
+    let f = c.in_ok-axes.ensures in
+    rw (err-is {e = c.in_err-check_scratch.field-0.0} c.from_residual-in_err-check_scratch.result c.from_residual-in_err-check_scratch.ensures.1)
+    (then-last a.shape.count a.shape.dims (grid_check (take a.shape.count a.shape.dims) a.grid.now) (knots_check (take a.shape.count a.shape.dims) a.grid.now) a.coeffs a.ledger (grid-positive (take a.shape.count a.shape.dims) a.grid.now) (knots-positive (take a.shape.count a.shape.dims) a.grid.now) _ (call-ready-is a.shape.count a.shape.dims (grid_check (take a.shape.count a.shape.dims) a.grid.now) (knots_check (take a.shape.count a.shape.dims) a.grid.now) a.coeffs a.ledger a.scratch) (sym f.0) (rw (f.1.0, f.1.1) at c.in_err-check_scratch.ensures))
 
 pub returns : goal.returns
 returns c =
     let a = c.args in
-    then-last a.count a.dims (grid_check (take a.count a.dims) a.grid.now) (knots_check (take a.count a.dims) a.grid.now) a.coeffs a.ledger (grid-positive (take a.count a.dims) a.grid.now) (knots-positive (take a.count a.dims) a.grid.now) _ (call-ready-is a.count a.dims (grid_check (take a.count a.dims) a.grid.now) (knots_check (take a.count a.dims) a.grid.now) a.coeffs a.ledger a.scratch) c.check_ready.ensures c.in_default.is c.check_scratch.ensures
+    let f = c.in_ok-axes.ensures in
+    (sym (then-last a.shape.count a.shape.dims (grid_check (take a.shape.count a.shape.dims) a.grid.now) (knots_check (take a.shape.count a.shape.dims) a.grid.now) a.coeffs a.ledger (grid-positive (take a.shape.count a.shape.dims) a.grid.now) (knots-positive (take a.shape.count a.shape.dims) a.grid.now) _ (call-ready-is a.shape.count a.shape.dims (grid_check (take a.shape.count a.shape.dims) a.grid.now) (knots_check (take a.shape.count a.shape.dims) a.grid.now) a.coeffs a.ledger a.scratch) (sym f.0) (rw (f.1.0, f.1.1) at c.in_ok-check_scratch.ensures)), f.1)

@@ -1,43 +1,48 @@
-use native.Mathlib.Omega.{arith}
+use mathlib.Core.Path.{sym}
 use lib.ListN.{take}
-use Rattle.shape.proofs.Accepted.{usable}
 use Rattle.knots.specs.Checks.{grid_check, knots_check}
-use Rattle.ledger.proofs.Stages.{is-accepted, at-shape, at-grid, at_held, at-knots}
 use Rattle.stepwise.proofs.Rectilinear.{grid-positive, joined_is}
+use Rattle.shape.proofs.Exit.{err-is}
+use Rattle.ledger.proofs.Stages.{at-shape, at-grid, at_held, at-knots}
 use Rattle.stepwise.proofs.rectilinear_steps.check_ready.Goals as goal
 
-pub returns-in-Refused : goal.returns-in-Refused
-returns-in-Refused c =
+pub returns-in_err-axes : goal.returns-in_err-axes
+returns-in_err-axes c =
     let a = c.args in
-    at-shape a.count a.dims (grid_check (take a.count a.dims) a.grid.now) (knots_check (take a.count a.dims) a.grid.now) a.coeffs a.ledger c.in-Refused.is c.check.ensures
+    rw (err-is {e = c.in_err-axes.field-0.0} c.from_residual.result c.from_residual.ensures.1)
+    (at-shape a.shape.count a.shape.dims (grid_check (take a.shape.count a.shape.dims) a.grid.now) (knots_check (take a.shape.count a.shape.dims) a.grid.now) a.coeffs a.ledger _ c.in_err-axes.ensures)
 
-pub check_grid-requires : goal.check_grid-requires
-check_grid-requires c =
-    usable c.args.count c.args.dims (omega (arith, c.well_formed)) (is-accepted c.in_default.is c.check.ensures)
-
-pub returns-in-Refused-check_grid : goal.returns-in-Refused-check_grid
-returns-in-Refused-check_grid c =
+pub returns-in_err-check_grid : goal.returns-in_err-check_grid
+returns-in_err-check_grid c =
     let a = c.args in
-    at-grid a.count a.dims (grid_check (take a.count a.dims) a.grid.now) (knots_check (take a.count a.dims) a.grid.now) a.coeffs a.ledger (is-accepted c.in_default.is c.check.ensures) c.in-Refused-check_grid.is c.check_grid.ensures
+    let f = c.in_ok-axes.ensures in
+    rw (err-is {e = c.in_err-check_grid.field-0.0} c.from_residual-in_err-check_grid.result c.from_residual-in_err-check_grid.ensures.1)
+    (at-grid a.shape.count a.shape.dims (grid_check (take a.shape.count a.shape.dims) a.grid.now) (knots_check (take a.shape.count a.shape.dims) a.grid.now) a.coeffs a.ledger f.0 _ (rw (f.1.0, f.1.1) at c.in_err-check_grid.ensures))
 
-pub check_held-requires : goal.check_held-requires
-check_held-requires c =
-    usable c.args.count c.args.dims (omega (arith, c.well_formed)) (is-accepted c.in_default.is c.check.ensures)
-
-pub returns-in-Refused-check_held : goal.returns-in-Refused-check_held
-returns-in-Refused-check_held c =
+pub returns-in_err-check_held : goal.returns-in_err-check_held
+returns-in_err-check_held c =
     let a = c.args in
-    at_held a.count a.dims (grid_check (take a.count a.dims) a.grid.now) (knots_check (take a.count a.dims) a.grid.now) a.coeffs a.ledger (is-accepted c.in_default.is c.check.ensures) (grid-positive (take a.count a.dims) a.grid.now)
-    (is-accepted c.in_default-check_grid.is c.check_grid.ensures) c.in-Refused-check_held.is c.check_held.ensures
+    let f = c.in_ok-axes.ensures in
+    rw (err-is {e = c.in_err-check_held.field-0.0} c.from_residual-in_err-check_held.result c.from_residual-in_err-check_held.ensures.1)
+    (at_held a.shape.count a.shape.dims (grid_check (take a.shape.count a.shape.dims) a.grid.now) (knots_check (take a.shape.count a.shape.dims) a.grid.now) a.coeffs a.ledger f.0 (grid-positive (take a.shape.count a.shape.dims) a.grid.now)
+    (sym (rw (f.1.0, f.1.1) at c.in_ok-check_grid.ensures)) _ (rw (f.1.0, f.1.1) at c.in_err-check_held.ensures))
 
 pub check_knots-requires : goal.check_knots-requires
-check_knots-requires c = (
-  usable c.args.count c.args.dims (omega (arith, c.well_formed)) (is-accepted c.in_default.is c.check.ensures),
-  joined_is (take c.args.count c.args.dims) c.args.grid.now (is-accepted c.in_default-check_grid.is c.check_grid.ensures),
-)
+check_knots-requires c = joined_is _ c.args.grid.now (sym c.in_ok-check_grid.ensures)
+
+pub returns-in_err-check_knots : goal.returns-in_err-check_knots
+returns-in_err-check_knots c =
+    let a = c.args in
+    let f = c.in_ok-axes.ensures in
+    rw (err-is {e = c.in_err-check_knots.field-0.0} c.from_residual-in_err-check_knots.result c.from_residual-in_err-check_knots.ensures.1)
+    (at-knots a.shape.count a.shape.dims (grid_check (take a.shape.count a.shape.dims) a.grid.now) (knots_check (take a.shape.count a.shape.dims) a.grid.now) a.coeffs a.ledger f.0 (grid-positive (take a.shape.count a.shape.dims) a.grid.now)
+    (sym (rw (f.1.0, f.1.1) at c.in_ok-check_grid.ensures)) (sym (rw (f.1.0, f.1.1) at c.in_ok-check_held.ensures)) (rw (f.1.0, f.1.1) at c.in_err-check_knots.ensures))
 
 pub returns : goal.returns
 returns c =
     let a = c.args in
-    at-knots a.count a.dims (grid_check (take a.count a.dims) a.grid.now) (knots_check (take a.count a.dims) a.grid.now) a.coeffs a.ledger (is-accepted c.in_default.is c.check.ensures) (grid-positive (take a.count a.dims) a.grid.now)
-    (is-accepted c.in_default-check_grid.is c.check_grid.ensures) (is-accepted c.in_default-check_held.is c.check_held.ensures) c.check_knots.ensures
+    let f = c.in_ok-axes.ensures in (
+      sym (at-knots a.shape.count a.shape.dims (grid_check (take a.shape.count a.shape.dims) a.grid.now) (knots_check (take a.shape.count a.shape.dims) a.grid.now) a.coeffs a.ledger f.0 (grid-positive (take a.shape.count a.shape.dims) a.grid.now)
+          (sym (rw (f.1.0, f.1.1) at c.in_ok-check_grid.ensures)) (sym (rw (f.1.0, f.1.1) at c.in_ok-check_held.ensures)) (rw (f.1.0, f.1.1) at c.in_ok-check_knots.ensures)),
+      f.1,
+    )

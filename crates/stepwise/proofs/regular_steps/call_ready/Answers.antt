@@ -3,6 +3,7 @@ use mathlib.Core.List.{[]}
 use native.Mathlib.Omega.{arith}
 use lib.ListN.{length, take}
 use lib.Ieee.{binary64, nan}
+use Rattle.shape.proofs.Exit.{err-is}
 use Rattle.regular_lines.specs.Rows.{coefficient, upper_number}
 use Rattle.regular.specs.Fit.{solve, upper}
 use Rattle.ledger.proofs.DueBytes.{bumped-is}
@@ -14,13 +15,13 @@ use Rattle.stepwise.proofs.regular_steps.call_ready.Goals as goal
 pub find_due-requires : goal.find_due-requires
 find_due-requires c =
     let a = c.args in
-    let p = call-ready a.count a.dims [] [] tt tt (length a.coeffs.now) (length a.ledger.now) (length a.scratch.now) (omega (arith, c.well_formed)) c.requires in
-    (p.shape, p.ledger-size)
+    let p = call-ready a.axes.count a.axes.dims [] [] tt tt (length a.coeffs.now) (length a.ledger.now) (length a.scratch.now) (omega (arith, c.well_formed)) c.requires in
+    p.ledger-size
 
 pub solve_checked-requires : goal.solve_checked-requires
 solve_checked-requires c =
     let a = c.args in
-    let p = line-due a.count a.dims [] [] tt tt (record { axis = a.axis; line = a.line; scratch = a.scratch.now }) (record { coefs = a.coeffs.now; ledger = a.ledger.now }) c.requires (omega (arith, c.well_formed)) c.in-At.is c.find_due.ensures in
+    let p = line-due a.axes.count a.axes.dims [] [] tt tt (record { axis = a.axis; line = a.line; scratch = a.scratch.now }) (record { coefs = a.coeffs.now; ledger = a.ledger.now }) c.requires (omega (arith, c.well_formed)) c.in_ok-found.ensures in
     record {
       le_n = (p.fits).0;
       n_le_m = (p.fits).1;
@@ -29,21 +30,22 @@ solve_checked-requires c =
 pub bump_line-requires : goal.bump_line-requires
 bump_line-requires c =
     let a = c.args in
-    let p = line-due a.count a.dims [] [] tt tt (record { axis = a.axis; line = a.line; scratch = a.scratch.now }) (record { coefs = a.coeffs.now; ledger = a.ledger.now }) c.requires (omega (arith, c.well_formed)) c.in-At.is c.find_due.ensures in
+    let p = line-due a.axes.count a.axes.dims [] [] tt tt (record { axis = a.axis; line = a.line; scratch = a.scratch.now }) (record { coefs = a.coeffs.now; ledger = a.ledger.now }) c.requires (omega (arith, c.well_formed)) c.in_ok-found.ensures in
     (omega (arith, p.is-axis, p.ready.shape.at-most-four), p.inside, p.bytes)
 
-pub returns-in-At : goal.returns-in-At
-returns-in-At c =
+pub returns : goal.returns
+returns c =
     let a = c.args in
-    let p = line-due a.count a.dims [] [] tt tt (record { axis = a.axis; line = a.line; scratch = a.scratch.now }) (record { coefs = a.coeffs.now; ledger = a.ledger.now }) c.requires (omega (arith, c.well_formed)) c.in-At.is c.find_due.ensures in
-    let u = upper binary64 (take a.count a.dims) in
-    let v = solve binary64 (take a.count a.dims) in
+    let p = line-due a.axes.count a.axes.dims [] [] tt tt (record { axis = a.axis; line = a.line; scratch = a.scratch.now }) (record { coefs = a.coeffs.now; ledger = a.ledger.now }) c.requires (omega (arith, c.well_formed)) c.in_ok-found.ensures in
+    let u = upper binary64 (take a.axes.count a.axes.dims) in
+    let v = solve binary64 (take a.axes.count a.axes.dims) in
     called-accepted p.accepted
     (one-coefs nan u v p.numbers (ap (upper_number binary64) p.numbers.the-points) (ap (coefficient binary64) p.numbers.the-points) a.coeffs.now a.scratch.now c.solve_checked.ensures.coeffs_after)
-    (bumped-is (take a.count a.dims) a.axis a.line a.ledger.now p.numbers c.bump_line.ensures)
+    (bumped-is (take a.axes.count a.axes.dims) a.axis a.line a.ledger.now p.numbers c.bump_line.ensures)
     (one-scratch nan u v p.numbers (ap (upper_number binary64) p.numbers.the-points) (ap (coefficient binary64) p.numbers.the-points) a.coeffs.now a.scratch.now c.solve_checked.ensures.scratch_after)
 
-pub returns-in-Refused : goal.returns-in-Refused
-returns-in-Refused c =
+pub returns-in_err-found : goal.returns-in_err-found
+returns-in_err-found c =
+    rw (err-is {e = c.in_err-found.field-0.0} c.from_residual.result c.from_residual.ensures.1) (
     let a = c.args in
-    not-due a.count a.dims [] [] tt tt (record { axis = a.axis; line = a.line; scratch = a.scratch.now }) (record { coefs = a.coeffs.now; ledger = a.ledger.now }) c.requires c.in-Refused.is c.find_due.ensures
+    not-due a.axes.count a.axes.dims [] [] tt tt (record { axis = a.axis; line = a.line; scratch = a.scratch.now }) (record { coefs = a.coeffs.now; ledger = a.ledger.now }) c.requires _ c.in_err-found.ensures)

@@ -1,5 +1,0 @@
-use mathlib.Core.Path.{refl}
-use Rattle.regular_map.proofs.build.refused.Goals as goal
-
-pub returns : goal.returns
-returns c = (refl, c.blank-map.ensures)
