@@ -10,7 +10,7 @@ use native.Mathlib.Numerals.{add-one}
 use native.Mathlib.Omega.{arith}
 use borrow.Author.Tests.{not-true, not-false}
 use lib.ListN.{length, get_or, take, drop, length-drop, drop_of_length-le}
-use lib.Seq.{slice-cons, length-take-le, take-take}
+use lib.Seq.{drop-cons, slice-cons, length-take-le, take-take}
 use lib.Ieee.{Float}
 use Rattle.shape.specs.Shape.{product, size, points}
 use Rattle.shape.specs.Checks.{most_points}
@@ -30,6 +30,16 @@ module _ (lens : List ℕ) (k i : ℕ) (h : k ≤ length lens) where
   pub total-end : k ≤ i → total (drop i (take k lens)) ≡ 0
   unfolding total
   total-end g = ap total (drop_of_length-le (take k lens) {i = i} (rw (length-take-le k lens h) g))
+
+-- the lengths from i on: one more, and none
+module _ (lens : List ℕ) (i : ℕ) where
+  pub total-at : i < length lens → total (drop i lens) ≡ get_or lens i 0 + total (drop (i + 1) lens)
+  unfolding total
+  total-at h = ap total (drop-cons lens i 0 h) ∙ rw add-one
+
+  pub total-past : length lens ≤ i → total (drop i lens) ≡ 0
+  unfolding total
+  total-past h = ap total (drop_of_length-le lens {i = i} h)
 
 -- ---- the knots of axis a
 

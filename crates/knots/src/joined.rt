@@ -4,16 +4,14 @@ ghost use Rattle.shape.specs.Checks.{most_points};
 ghost use Rattle.shape.specs.Usable.{Usable};
 ghost use Rattle.knots.specs.Joined.{total, knots_of};
 
-// How many knots the axes before `axis` have.
-fn offset(dims: [usize; 4], axis: usize) -> usize
-    requires { (axis ≤ 4) × (total (take axis dims) ≤ most_points) }
-    ensures { result ≡ total (take axis dims) }
+// How many knots some axes have.
+fn knots_on(dims: &[usize]) -> usize
+    requires { total dims.now ≤ most_points }
+    ensures { result ≡ total dims.now }
 {
     let mut sum: usize = 0;
-    let mut i = 0;
-    while i < axis {
-        sum += dims[i];
-        i += 1;
+    for n in dims {
+        sum += *n;
     }
     sum
 }
@@ -23,14 +21,14 @@ pub fn grid_len(count: usize, dims: [usize; 4]) -> usize
     requires { Usable count dims }
     ensures { result ≡ total (take count dims) }
 {
-    offset(dims, count)
+    knots_on(&dims[..count])
 }
 
 pub fn axis_knots(grid: &[f64], count: usize, dims: [usize; 4], axis: usize) -> &[f64]
     requires { (axis < count) × Usable count dims × (length grid.now ≡ total (take count dims)) }
     ensures { result.now ≡ knots_of grid.now (take count dims) axis }
 {
-    let from = offset(dims, axis);
+    let from = knots_on(&dims[..axis]);
     let to = from + dims[axis];
     &grid[from..to]
 }

@@ -24,10 +24,8 @@ pub fn rising(knots: &[f64]) -> bool
     ensures { result ≡ rises knots.now }
 {
     let mut falls: usize = 0;
-    let mut i: usize = 1;
-    while i < knots.len() {
+    for i in 1..knots.len() {
         falls += fall(knots[i - 1], knots[i]);
-        i += 1;
     }
     falls == 0
 }
@@ -37,12 +35,10 @@ pub fn all_rise(grid: &[f64], count: usize, dims: [usize; 4]) -> bool
     requires { Usable count dims × (length grid.now ≡ total (take count dims)) }
     ensures { result ≡ all_rise grid.now (take count dims) count }
 {
-    let mut axis: usize = 0;
-    while axis < count {
+    for axis in 0..count {
         if !rising(axis_knots(grid, count, dims, axis)) {
             return false;
         }
-        axis += 1;
     }
     true
 }
@@ -76,10 +72,8 @@ fn count_from(knots: &[f64], x: f64, low: usize, len: usize) -> usize
     ensures { (result ≡ count_below knots.now x) × (result ≤ length knots.now) }
 {
     let mut count = low;
-    let mut i = low;
-    while i < low + len {
+    for i in low..low + len {
         count += below(knots[i], x);
-        i += 1;
     }
     count
 }

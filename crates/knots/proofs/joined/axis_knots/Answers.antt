@@ -3,20 +3,20 @@ use native.Mathlib.Omega.{arith}
 use lib.ListN.{length, get_or}
 use Rattle.knots.proofs.Totals.{grid-small, part-within, part-is}
 use Rattle.knots.proofs.joined.axis_knots.Goals as goal
-use Rattle.knots.proofs.joined.axis_knots.Goals.{After-offset-from}
+use Rattle.knots.proofs.joined.axis_knots.Goals.{After-knots_on-from}
 
 -- the part is within the grid
-within : (c : After-offset-from)
-    → c.offset-from.result + get_or c.args.dims c.args.axis 0 ≤ length c.args.grid.now
+within : (c : After-knots_on-from)
+    → c.knots_on-from.result + get_or c.args.dims c.args.axis 0 ≤ length c.args.grid.now
 within c =
     let inside = part-within c.args.count c.args.dims (omega (arith, c.well_formed)) c.requires.1 c.args.axis c.requires.0 in
-    omega (arith, c.requires.2, c.offset-from.ensures)
+    omega (arith, c.requires.2, c.knots_on-from.ensures)
 
-pub offset-from-requires : goal.offset-from-requires
-offset-from-requires c =
+pub knots_on-from-requires : goal.knots_on-from-requires
+knots_on-from-requires c =
     let small = grid-small c.args.count c.args.dims (omega (arith, c.well_formed)) c.requires.1 in
     let inside = part-within c.args.count c.args.dims (omega (arith, c.well_formed)) c.requires.1 c.args.axis c.requires.0 in
-    (omega (arith, c.requires.1.at-most-four), omega arith)
+    omega arith
 
 pub overflow_add-to : goal.overflow_add-to
 overflow_add-to c = omega (arith, within c)
@@ -29,4 +29,4 @@ slice_bounds-result-end c = omega (arith, within c)
 
 pub returns : goal.returns
 returns c =
-    part-is c.args.count c.args.dims (omega (arith, c.well_formed)) c.requires.1 c.args.axis c.requires.0 c.args.grid.now c.offset-from.ensures
+    part-is c.args.count c.args.dims (omega (arith, c.well_formed)) c.requires.1 c.args.axis c.requires.0 c.args.grid.now c.knots_on-from.ensures

@@ -1,5 +1,4 @@
 use mathlib.Core.Path.{◌≡◌, refl, sym}
-use mathlib.Core.Bool.{true}
 use native.Mathlib.Omega.{arith}
 use Rattle.knots.specs.Joined.{all_rise}
 use Rattle.knots.proofs.Totals.{one-more-rises, one-falls}
