@@ -1,6 +1,6 @@
 -- The rows of a system, done to a group of lanes, meet the equations of a scheme, and its upper numbers are the same for all
 -- lines. For both formats. Assumes nothing.
-use mathlib.Core.Path.{◌≡◌, refl, sym, ap}
+use mathlib.Core.Path.{◌≡◌, refl, sym}
 use mathlib.Core.Bool.{Bool, true, false, cond}
 use mathlib.Core.List.{List}
 use Prim.Native.Nat.{ℕ, zero, suc, ◌-◌, ◌≤◌}

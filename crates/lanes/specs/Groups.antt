@@ -1,6 +1,6 @@
 -- A group of lanes by its numbers, and the rows of a system done to all of its lanes at once. For contracts inside the library.
 -- Assumes nothing.
-use Rattle.std.specs.Prelude.{◌≡◌, cond, List, ℕ, ◌+◌, ◌-◌, ◌*◌, eqb, Float}
+use Rattle.std.specs.Prelude.{◌≡◌, cond, List, ℕ, ◌-◌, ◌*◌, eqb, Float}
 use Rattle.std.specs.Float.Ieee as Ieee
 use Rattle.std.specs.Float.{Format}
 use Rattle.shape.specs.Cells.{on_line}

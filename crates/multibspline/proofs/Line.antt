@@ -1,5 +1,5 @@
 -- The checks of `solve_line`, outcome by outcome, and what an accepted line gives. Assumes nothing.
-use mathlib.Core.Path.{◌≡◌, sym, ap, ◌∙◌}
+use mathlib.Core.Path.{◌≡◌, sym, ◌∙◌}
 use mathlib.Core.Bool.{true, false}
 use mathlib.Core.Logic.{⊎_elim}
 use Prim.Native.Nat.{ℕ, ◌+◌, ◌-◌, ◌/◌, ◌≤◌, ◌<◌}
@@ -9,7 +9,6 @@ use borrow.Author.Tests.{lt-ltb, le-ltb, ltb-true, ltb-false, le-leb, lt-leb, no
 use lib.Dec.{ltb, leb}
 use Rattle.shape.specs.Cells.{on_line}
 use Rattle.shape.specs.Checks.{first_refusal}
-use Rattle.shape.specs.Refusal.{answer_number}
 use Rattle.shape.proofs.Cells.{lt-or-ge}
 use Rattle.shape.proofs.Checks.{check-passed}
 use Rattle.shape.proofs.Lengths.{or-false}

@@ -6,7 +6,7 @@ use Prim.Native.Nat.{ℕ, zero, suc, ◌+◌, ◌-◌, ◌≤◌, ◌<◌}
 use native.Mathlib.Nat.{eq-or-lt_of_le}
 use native.Mathlib.Omega.{arith}
 use lib.ListN.{length, set, length-set}
-use lib.Seq.{get_or-set_same, get_or-set_other, set-set, ext_get_or}
+use lib.Seq.{get_or-set_same, get_or-set_other, set-set}
 use lib.Ieee.{Float, Format, nan}
 use Rattle.shape.specs.Cells.{put, from, on_line, write_line}
 use Rattle.shape.specs.Fit.{line_scratch}

@@ -1,9 +1,5 @@
-use mathlib.Core.Path.{ap, ◌∙◌}
-use Prim.Native.Nat.{ℕ, ◌-◌}
 use native.Mathlib.Omega.{arith}
 use lib.Ieee.{binary64}
-use Rattle.shape.specs.Shape.{first_cell}
-use Rattle.shape.specs.Cells.{put, from}
 use Rattle.shape.proofs.Lines.{first-cell-room}
 use Rattle.lines.specs.Rows.{coefficient, upper_number}
 use Rattle.lines.proofs.Rows.{looks-coefficient}

@@ -1,5 +1,5 @@
 use lib.Ieee.{binary64, nan}
-use Rattle.shape.proofs.Lines.{first-cell-room, line-room, nth-coefs, nth-scratch}
+use Rattle.shape.proofs.Lines.{nth-coefs, nth-scratch}
 use Rattle.lines.specs.Rows.{coefficient, upper_number}
 use Rattle.lanes.proofs.axis.solve_nth.Goals as goal
 

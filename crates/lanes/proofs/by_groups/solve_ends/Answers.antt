@@ -1,4 +1,4 @@
-use Rattle.lanes.proofs.Groups.{to_start, to_step, to-done}
+use Rattle.lanes.proofs.Groups.{to_start, to_step}
 use Rattle.lanes.proofs.by_groups.solve_ends.Goals as goal
 
 pub loop-first-init : goal.loop-first-init

@@ -1,4 +1,4 @@
-use Rattle.lanes.proofs.Groups.{slabs-start, slabs-step, slabs-done}
+use Rattle.lanes.proofs.Groups.{slabs-start, slabs-step}
 use Rattle.lanes.proofs.by_groups.solve_slabs.Goals as goal
 
 pub loop-k-init : goal.loop-k-init

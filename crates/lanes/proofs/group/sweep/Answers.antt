@@ -1,5 +1,4 @@
-use mathlib.Core.Path.{refl}
-use Rattle.lanes.proofs.Rows.{sweep-start, sweep-step, sweep-done}
+use Rattle.lanes.proofs.Rows.{sweep-start, sweep-step}
 use Rattle.lanes.proofs.group.sweep.Goals as goal
 
 pub loop-j-init : goal.loop-j-init

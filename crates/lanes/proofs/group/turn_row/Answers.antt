@@ -1,4 +1,4 @@
-use Rattle.lanes.proofs.Rows.{beside, swept_at}
+use Rattle.lanes.proofs.Rows.{beside}
 use Rattle.lanes.proofs.group.turn_row.Goals as goal
 
 pub sweep-requires : goal.sweep-requires

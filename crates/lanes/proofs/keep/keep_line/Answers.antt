@@ -1,4 +1,4 @@
-use Rattle.lanes.proofs.Groups.{filled-start, filled-step, filled-done}
+use Rattle.lanes.proofs.Groups.{filled-step}
 use Rattle.lanes.proofs.keep.keep_line.Goals as goal
 
 pub loop-i-preserved : goal.loop-i-preserved

@@ -1,4 +1,4 @@
-use Rattle.lanes.proofs.Turns.{down-start, down_step, down-done}
+use Rattle.lanes.proofs.Turns.{down-start, down_step}
 use Rattle.lanes.proofs.solve.back_rows.Goals as goal
 
 pub loop-i-init : goal.loop-i-init

@@ -1,4 +1,4 @@
-use Rattle.lanes.proofs.Turns.{up_start, up_step, up_done}
+use Rattle.lanes.proofs.Turns.{up_start, up_step}
 use Rattle.lanes.proofs.solve.inner_rows.Goals as goal
 
 pub loop-i-init : goal.loop-i-init

@@ -1,7 +1,7 @@
 use native.Mathlib.Omega.{arith}
 use lib.Ieee.{binary64}
 use Rattle.lanes.specs.Groups.{upper_next}
-use Rattle.lanes.proofs.Groups.{filled-start, uppers-step, filled-done}
+use Rattle.lanes.proofs.Groups.{uppers-step}
 use Rattle.lanes.proofs.Systems.{upper_first, upper-next}
 use Rattle.lanes.proofs.upper.upper_numbers.Goals as goal
 

@@ -1,4 +1,3 @@
-use Prim.Native.Nat.{◌-◌}
 use lib.Ieee.{binary64}
 use Rattle.multibspline.specs.Records.{reduced_of, samples}
 use Rattle.multibspline.proofs.Sweeps.{Eliminated}
