@@ -3,3 +3,4 @@ pub mod Rows
 pub mod Turns
 pub mod Solving
 pub mod Groups
+pub mod Systems

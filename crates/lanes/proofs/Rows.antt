@@ -55,6 +55,9 @@ length-swept op p q t m xs = length-put (on_line p t) _ m xs
 pub swept_at : (op : Float → Float → Float) (p q p' q' t m : ℕ) (xs xs' : List Float) → xs' ≡ swept op p q t m xs → p ≡ p' → q ≡ q' → xs' ≡ swept op p' q' t m xs
 swept_at op p q p' q' t m xs xs' e a b = rw (← a, ← b) e
 
+pub swept-by : (op op' : Float → Float → Float) (p q t m : ℕ) (xs xs' : List Float) → op ≡ op' → xs' ≡ swept op p q t m xs → xs' ≡ swept op' p q t m xs
+swept-by op op' p q t m xs xs' same e = rw (← same) e
+
 -- a sweep leaves the lanes where they are
 pub laid-swept : {n s first t m : ℕ} (op : Float → Float → Float) (p q : ℕ) (xs xs' : List Float) → xs' ≡ swept op p q t m xs → Lanes n s first t m (length xs) → Lanes n s first t m (length xs')
 laid-swept {t = t} {m} op p q xs xs' e laid = laid_as (ap length e ∙ length-swept op p q t m xs) laid
@@ -86,11 +89,6 @@ module _ {op : Float → Float → Float} {p q t m : ℕ} {xs₀ : List Float} w
 
   pub sweep-done : {xs : List Float} {j : ℕ} → Swept op p q t m xs₀ xs j → m ≤ j → xs ≡ swept op p q t m xs₀
   sweep-done {xs} {j} w h = let e : j ≡ m = omega (arith, w.most) in rw e at w.cells
-
--- the same at distance 1
-pub sweep-step-1 : {op : Float → Float → Float} {p q m : ℕ} {xs₀ xs xs' : List Float} {j : ℕ} → Swept op p q 1 m xs₀ xs j → j < m → Beside p q 1 m (length xs₀)
-    → xs' ≡ set xs (p + j) (op (at xs (p + j)) (at xs (q + j))) → Swept op p q 1 m xs₀ xs' (j + 1)
-sweep-step-1 {op} {p} {q} {m} {xs₀} {xs} {xs'} {j} w h b e = let a : j ≡ j * 1 = omega arith in sweep-step w h b (rw a at e)
 
 -- ---- what it does to the lanes
 

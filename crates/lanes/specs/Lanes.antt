@@ -2,13 +2,13 @@
 -- of m is line first + j, and its entry i is cell first * n + j * t + i * s. In a slab t is 1 and m is s; on the last axis s
 -- is 1 and t is n. For contracts inside the library. Assumes nothing.
 use Rattle.std.specs.Prelude.{◌≡◌, ◌≢◌, List, ℕ, zero, suc, ◌+◌, ◌-◌, ◌*◌, ◌≤◌, ◌<◌, length, Float}
-use Rattle.std.specs.Float.Ieee as Ieee
 use Rattle.std.specs.Float.{Format, nan}
 use Rattle.shape.specs.Shape.{first_cell}
 use Rattle.shape.specs.Cells.{on_line, line, write_line}
 use Rattle.shape.specs.Fit.{solve_line}
 use Rattle.multibspline.specs.Numbers.{f0}
 use Rattle.multibspline.specs.Thomas.{at}
+use Rattle.lines.specs.Turns.{less_cell}
 
 -- the lanes lie within len cells
 pub record Lanes (n s first t m len : ℕ) : Type 0 where
@@ -57,14 +57,6 @@ module _ (op : ℕ → Float → Float → Float) (base t s m : ℕ) where
   unfoldable pub sweep_down : ℕ → ℕ → List Float → List Float
   sweep_down last zero xs = xs
   sweep_down last (suc k) xs = swept (op (last - suc k)) (on_line base s (last - suc k)) (on_line base s (suc (last - suc k))) t m (sweep_down last k xs)
-
--- ---- what is done to a cell x, with z the cell beside it
-
-unfoldable pub less_cell : Format → Float → Float → Float → Float
-less_cell f factor x z = Ieee.sub f x (Ieee.mul f factor z)
-
-unfoldable pub step_cell : Format → Float → Float → Float → Float → Float
-step_cell f factor d x z = Ieee.div f (Ieee.sub f x (Ieee.mul f factor z)) d
 
 -- back substitution in row i, with the upper numbers in u
 unfoldable pub back_cell : Format → List Float → ℕ → Float → Float → Float

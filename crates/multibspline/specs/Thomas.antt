@@ -4,11 +4,20 @@ use Rattle.std.specs.Prelude.{ℕ, zero, suc, ◌-◌, List, get_or, Float}
 use Rattle.std.specs.Float.Ieee as Ieee
 use Rattle.std.specs.Float.{Format, nan}
 
+-- the left side of a row
+pub record Left : Type 0 where
+  pub lower : Float
+  pub diag : Float
+  pub upper : Float
+
 pub record Row : Type 0 where
   pub lower : Float
   pub diag : Float
   pub upper : Float
   pub right : Float
+
+abbrev pub with_right : Left → Float → Row
+with_right left right = record { lower = left.lower; diag = left.diag; upper = left.upper; right = right }
 
 -- a row from which x(i-1) has been eliminated and whose diagonal is 1: x(i) + upper · x(i+1) = right
 pub record Reduced : Type 0 where

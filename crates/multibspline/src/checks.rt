@@ -4,7 +4,7 @@ ghost use Rattle.shape.specs.Cells.{on_line};
 ghost use Rattle.shape.specs.Refusal.{answer_number};
 ghost use Rattle.multibspline.specs.Line.{line_answer};
 
-use shape::Refusal;
+use shape::{Line, Refusal};
 
 // Whether the last of n entries, from `base`, `stride` apart, lies within `len`; tested by division, so that nothing overflows.
 fn ends_within(base: usize, stride: usize, n: usize, len: usize) -> bool
@@ -20,16 +20,15 @@ fn ends_within(base: usize, stride: usize, n: usize, len: usize) -> bool
 // Whether a line can be solved, from the lengths of its buffers. Refuses with 2 a line of fewer than 4 points, a line that
 // does not lie within the coefficients, and scratch without room for n upper numbers before `longest` and n right sides from
 // there on.
-pub fn check_line(
-    base: usize,
-    stride: usize,
-    n: usize,
-    longest: usize,
-    coeffs: usize,
-    scratch: usize,
-) -> Result<(), Refusal>
-    ensures { answer_number result ≡ line_answer base stride n longest coeffs scratch }
+pub fn check_line(along: Line, coeffs: usize, scratch: usize) -> Result<(), Refusal>
+    ensures { answer_number result ≡ line_answer along.base along.stride along.n along.longest coeffs scratch }
 {
+    let Line {
+        n,
+        stride,
+        base,
+        longest,
+    } = along;
     if n < 4 {
         return Err(Refusal::DimensionMismatch);
     }

@@ -2,15 +2,14 @@
 use mathlib.Core.Path.{◌≡◌, sym, ◌∙◌}
 use mathlib.Core.Bool.{Bool, true, false, not}
 use mathlib.Core.List.{List, [], ◌++◌}
-use Prim.Native.Nat.{ℕ, ◌≤◌, ◌<◌}
+use Prim.Native.Nat.{ℕ, ◌*◌, ◌≤◌, ◌<◌}
 use lib.ListN.{length, take}
 use lib.Ieee.{Float}
-use Rattle.shape.specs.Shape.{size}
+use Rattle.shape.specs.Shape.{longest, size}
 use Rattle.shape.specs.Checks.{Check, first_refusal, shape_checks, length_check, scratch_check}
 use Rattle.shape.specs.Refusal.{refusal_number}
-use Rattle.shape.specs.Sizes.{coeff_storage_len, construction_scratch_len}
 use Rattle.shape.specs.declared.answers.Refusal.{Refusal}
-use Rattle.shape.proofs.Accepted.{refusal-append, accepted-append, storage-is, scratch-is}
+use Rattle.shape.proofs.Accepted.{refusal-append, accepted-append}
 use Rattle.shape.proofs.Checks.{check-fails, check-passes, length-fails, length-passes, scratch-fails, scratch-passes}
 use Rattle.knots.specs.Joined.{total, all_rise}
 use Rattle.knots.specs.Checks.{grid_check, knots_check}
@@ -54,12 +53,12 @@ module _ (count : ℕ) (lens : List ℕ) (grid : List Float) (samples coefs scra
       after-grid : first_refusal (rectilinear_fit_checks count lens grid samples coefs scratch) ≡ first_refusal (from_coefs (take count lens) grid samples coefs scratch)
       after-grid = after-shape ∙ length-passes _ (total (take count lens)) (length grid) joined
 
-      pub fit-coefs : (coefs ≡ coeff_storage_len count lens → ⊥) → Answered 2
-      fit-coefs h = length-fails _ (size (take count lens)) coefs (λ e. h (e ∙ sym (storage-is count lens ok))) ∙ sym after-grid
+      pub fit-coefs : (coefs ≡ size (take count lens) → ⊥) → Answered 2
+      fit-coefs h = length-fails _ (size (take count lens)) coefs h ∙ sym after-grid
 
-      module _ (same : coefs ≡ coeff_storage_len count lens) where
+      module _ (same : coefs ≡ size (take count lens)) where
         after-coefs : first_refusal (rectilinear_fit_checks count lens grid samples coefs scratch) ≡ first_refusal (from_knots (take count lens) grid samples coefs scratch)
-        after-coefs = after-grid ∙ length-passes _ (size (take count lens)) coefs (same ∙ storage-is count lens ok)
+        after-coefs = after-grid ∙ length-passes _ (size (take count lens)) coefs same
 
         -- r is what the code finds of the knots
         module _ {r : Bool} (found : r ≡ all_rise grid (take count lens) count) (axes : length (take count lens) ≡ count) where
@@ -70,16 +69,16 @@ module _ (count : ℕ) (lens : List ℕ) (grid : List Float) (samples coefs scra
             after-knots : first_refusal (rectilinear_fit_checks count lens grid samples coefs scratch) ≡ first_refusal (from_samples (take count lens) grid samples coefs scratch)
             after-knots = after-coefs ∙ check-passes _ 5 _ (rw (axes, ← found) rise)
 
-            pub fit-samples : (samples ≡ coeff_storage_len count lens → ⊥) → Answered 2
-            fit-samples h = length-fails _ (size (take count lens)) samples (λ e. h (e ∙ sym (storage-is count lens ok))) ∙ sym after-knots
+            pub fit-samples : (samples ≡ size (take count lens) → ⊥) → Answered 2
+            fit-samples h = length-fails _ (size (take count lens)) samples h ∙ sym after-knots
 
-            module _ (as_many : samples ≡ coeff_storage_len count lens) where
+            module _ (as_many : samples ≡ size (take count lens)) where
               after-samples : first_refusal (rectilinear_fit_checks count lens grid samples coefs scratch) ≡ first_refusal (from_scratch (take count lens) grid samples coefs scratch)
-              after-samples = after-knots ∙ length-passes _ (size (take count lens)) samples (as_many ∙ storage-is count lens ok)
+              after-samples = after-knots ∙ length-passes _ (size (take count lens)) samples as_many
 
-              pub fit-scratch : scratch < construction_scratch_len count lens → Answered 4
-              fit-scratch h = scratch-fails [] (take count lens) scratch (rw (scratch-is count lens ok) at h) ∙ sym after-samples
+              pub fit-scratch : scratch < 2 * longest (take count lens) → Answered 4
+              fit-scratch h = scratch-fails [] (take count lens) scratch h ∙ sym after-samples
 
-              pub fit_passed : construction_scratch_len count lens ≤ scratch → Answered 0
+              pub fit_passed : 2 * longest (take count lens) ≤ scratch → first_refusal (rectilinear_fit_checks count lens grid samples coefs scratch) ≡ 0
               unfolding first_refusal
-              fit_passed h = sym (after-samples ∙ scratch-passes [] (take count lens) scratch (rw (scratch-is count lens ok) at h))
+              fit_passed h = after-samples ∙ scratch-passes [] (take count lens) scratch h

@@ -1,5 +1,5 @@
 -- Demand 1 for the rectilinear fit, and what an accepted one may take for granted. Assumes nothing.
-use mathlib.Core.Path.{◌≡◌, refl, sym}
+use mathlib.Core.Path.{◌≡◌, refl, sym, ap, ◌∙◌}
 use mathlib.Core.Logic.{◌↔◌}
 use mathlib.Core.Bool.{true, false, not}
 use mathlib.Core.List.{List, ◌∷◌, ◌++◌}
@@ -7,7 +7,7 @@ use Prim.Native.Nat.{ℕ, ◌+◌, ◌*◌, ◌≤◌}
 use native.Mathlib.Omega.{arith}
 use borrow.Author.Tests.{not-false}
 use lib.ListN.{length, take}
-use lib.Ieee.{Float}
+use lib.Ieee.{Float, Format}
 use Rattle.shape.specs.Shape.{longest, size}
 use Rattle.shape.specs.Checks.{Check, first_refusal, Positive}
 use Rattle.shape.specs.Usable.{Usable}
@@ -19,7 +19,7 @@ use Rattle.knots.specs.Joined.{total, knots_of, all_rise}
 use Rattle.knots.specs.Checks.{knots_check}
 use Rattle.knots.proofs.Increase.{in_order, rises-of}
 use Rattle.knots.proofs.Totals.{axis-rises, all-rise}
-use Rattle.rectilinear.specs.Fit.{rectilinear_fit_checks}
+use Rattle.rectilinear.specs.Fit.{rectilinear_fit, rectilinear_scratch, rectilinear_fit_checks}
 use Rattle.rectilinear.specs.Total.{Rising, knots_condition, fit_conditions, FitTotal}
 
 -- ---- the knots
@@ -80,12 +80,16 @@ module _ (count : ℕ) (lens : List ℕ) (grid : List Float) (samples coefs scra
           room = h.1.1.1.1.1.1.1.0;
         }
 
-    -- by the answer of the checks
-    pub fit-range : ◌≡◌ {A = ℕ} 0 (first_refusal (rectilinear_fit_checks count lens grid samples coefs scratch)) → FitAccepted count lens grid samples coefs scratch
-    fit-range e = fit-accepted (sym e)
-
     pub accepted-rise : FitAccepted count lens grid samples coefs scratch → all_rise grid (take count lens) count ≡ true
     accepted-rise w = all-rising count lens grid w.rising
+
+-- the fit on axes that are those of the shape
+module _ (f : Format) (grid : List Float) {count count' : ℕ} {lens lens' : List ℕ} (ec : count' ≡ count) (el : lens' ≡ lens) (samples : List Float) where
+  pub fit-of : {xs : List Float} → xs ≡ rectilinear_fit f grid (take count' lens') samples → xs ≡ rectilinear_fit f grid (take count lens) samples
+  fit-of e = rw (ec, el) at e
+
+  pub scratch-of : (scratch : List Float) {ss : List Float} → ss ≡ rectilinear_scratch f grid (take count' lens') samples scratch → ss ≡ rectilinear_scratch f grid (take count lens) samples scratch
+  scratch-of scratch e = rw (ec, el) at e
 
 pub fit-total : FitTotal
 fit-total count lens grid samples coefs scratch four = Outcome.total (fit-tests count lens grid samples coefs scratch four)

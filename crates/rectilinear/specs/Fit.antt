@@ -7,7 +7,12 @@ use Rattle.shape.specs.Checks.{Check, first_refusal, fitting_checks}
 use Rattle.knots.specs.Joined.{knots_of}
 use Rattle.knots.specs.Checks.{grid_check, knots_check}
 use Rattle.rectilinear_weights.specs.Ghosts.{low_ghost_coeffs, high_ghost_coeffs}
-use Rattle.rectilinear_lines.specs.Rows.{coefficient, upper_number}
+use Rattle.lines.specs.Rows.{Rows}
+use Rattle.rectilinear_lines.specs.Rows.{system, coefficient, upper_number}
+
+-- the system of axis a
+abbrev pub axis_system : Format → List Float → List ℕ → ℕ → Rows
+axis_system f grid dims a = let ks = knots_of grid dims a in system f ks (low_ghost_coeffs f ks) (high_ghost_coeffs f ks)
 
 -- a line of axis a, solved: from its samples y, coefficient i, and upper number i of its elimination
 abbrev pub solve : Format → List Float → List ℕ → ℕ → (ℕ → Float) → ℕ → Float

@@ -2,6 +2,8 @@
 #![tactic(auto)]
 
 mod fit;
+mod grid;
 
 pub use fit::coefficients;
+pub use grid::RectilinearGrid;
 pub use rectilinear_lines::solve_line;

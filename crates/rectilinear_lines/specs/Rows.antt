@@ -6,7 +6,10 @@ use Rattle.std.specs.Prelude.{ℕ, ◌-◌, cond, List, eqb, length, Float}
 use Rattle.std.specs.Float.{Format}
 use Rattle.std.specs.Float.Ieee.{add, sub, mul, div}
 use Rattle.multibspline.specs.Numbers.{f0}
-use Rattle.multibspline.specs.Thomas.{Row, Reduced, at, forward, solution}
+use Rattle.multibspline.specs.Thomas.{Left, Row, Reduced, with_right, at}
+use Rattle.lines.specs.Rows as Lines
+use Rattle.lines.specs.Rows.{Rows}
+use Rattle.lines.specs.Turns.{less_cell, step_cell}
 use Rattle.rectilinear_basis.specs.Basis.{basis_span_weights}
 
 -- the four weights of span i at knot k
@@ -20,29 +23,36 @@ plus f a w g = add f a (mul f w g)
 abbrev pub less : Format → Float → Float → Float → Float
 less f a factor b = sub f a (mul f factor b)
 
--- the first row, from the weights w at the first knot and v at the second: the low ghost is folded in, and x(2) eliminated by
--- row 1. It has no lower number: 0 stands for it
-unfoldable pub low_row : Format → List Float → List Float → List Float → Float → Float → Row
-low_row f w v low y0 y1 =
-    let factor = div f (plus f (at w 3) (at w 0) (at low 2)) (at v 2) in
-    record {
-      lower = f0;
-      diag = less f (plus f (at w 1) (at w 0) (at low 0)) factor (at v 0);
-      upper = less f (plus f (at w 2) (at w 0) (at low 1)) factor (at v 1);
-      right = less f y0 factor y1;
-    }
+-- what the row beside an end row is multiplied by to take the third term away: beside the first row, from the weights w at the
+-- first knot and v at the second; beside the last, from the weights w at the last knot and v at the one before
+unfoldable pub low_factor : Format → List Float → List Float → List Float → Float
+low_factor f w v low = div f (plus f (at w 3) (at w 0) (at low 2)) (at v 2)
 
--- the last row, from the weights w at the last knot and v at the one before: the high ghost is folded in, and x(n - 3)
--- eliminated by row n - 2. It has no upper number: 0 stands for it
-unfoldable pub high_row : Format → List Float → List Float → List Float → Float → Float → Row
-high_row f w v high before y =
-    let factor = div f (plus f (at w 0) (at w 3) (at high 0)) (at v 0) in
-    record {
-      lower = less f (plus f (at w 1) (at w 3) (at high 1)) factor (at v 1);
-      diag = less f (plus f (at w 2) (at w 3) (at high 2)) factor (at v 2);
-      upper = f0;
-      right = less f y factor before;
-    }
+unfoldable pub high_factor : Format → List Float → List Float → List Float → Float
+high_factor f w v high = div f (plus f (at w 0) (at w 3) (at high 0)) (at v 0)
+
+-- the left sides after that. The first row has no lower number, the last no upper number: 0 stands for it
+unfoldable pub low_left : Format → List Float → List Float → List Float → Left
+low_left f w v low = record {
+  lower = f0;
+  diag = less f (plus f (at w 1) (at w 0) (at low 0)) (low_factor f w v low) (at v 0);
+  upper = less f (plus f (at w 2) (at w 0) (at low 1)) (low_factor f w v low) (at v 1);
+}
+
+unfoldable pub high_left : Format → List Float → List Float → List Float → Left
+high_left f w v high = record {
+  lower = less f (plus f (at w 1) (at w 3) (at high 1)) (high_factor f w v high) (at v 1);
+  diag = less f (plus f (at w 2) (at w 3) (at high 2)) (high_factor f w v high) (at v 2);
+  upper = f0;
+}
+
+-- the first row: the low ghost is folded in, and x(2) eliminated by row 1
+abbrev pub low_row : Format → List Float → List Float → List Float → Float → Float → Row
+low_row f w v low y0 y1 = with_right (low_left f w v low) (less f y0 (low_factor f w v low) y1)
+
+-- the last row: the high ghost is folded in, and x(n - 3) eliminated by row n - 2
+abbrev pub high_row : Format → List Float → List Float → List Float → Float → Float → Row
+high_row f w v high before y = with_right (high_left f w v high) (less f y (high_factor f w v high) before)
 
 -- the first row reduced: nothing stands before it, so that it is divided by its diagonal
 abbrev pub divided : Format → Row → Reduced
@@ -63,15 +73,33 @@ last_row f ks high y =
 abbrev pub row : Format → List Float → List Float → (ℕ → Float) → ℕ → Row
 row f ks high y i = cond (eqb i (length ks - 1)) (last_row f ks high y) (inner_row f ks y i)
 
-module _ (f : Format) (ks low high : List Float) (y : ℕ → Float) where
+module _ (f : Format) (ks low high : List Float) where
+  -- the same rows by their left and right sides: the system of the lines of the axis
+  abbrev pub system : Rows
+  system =
+      let n = length ks in
+      let w = at_knot f ks 0 0 in
+      let v = at_knot f ks 1 1 in
+      let w' = at_knot f ks (n - 2) (n - 1) in
+      let v' = at_knot f ks (n - 2) (n - 2) in
+      record {
+        points = n;
+        first_upper = div f (low_left f w v low).upper (low_left f w v low).diag;
+        first_right = step_cell f (low_factor f w v low) (low_left f w v low).diag;
+        inner = (λ i. record { lower = at (at_knot f ks i i) 0; diag = at (at_knot f ks i i) 1; upper = at (at_knot f ks i i) 2 });
+        inner_right = (λ y. y);
+        last = high_left f w' v' high;
+        last_right = less_cell f (high_factor f w' v' high);
+      }
+
   -- row i reduced
-  abbrev pub reduced : ℕ → Reduced
-  reduced i = forward f (first_row f ks low y) (row f ks high y) i
+  abbrev pub reduced : (ℕ → Float) → ℕ → Reduced
+  reduced y i = Lines.reduced system y f i
 
   -- its upper number
-  abbrev pub upper_number : ℕ → Float
-  upper_number i = (reduced i).upper
+  abbrev pub upper_number : (ℕ → Float) → ℕ → Float
+  upper_number y i = Lines.upper_number f system y i
 
   -- coefficient i
-  abbrev pub coefficient : ℕ → Float
-  coefficient i = solution f (first_row f ks low y) (row f ks high y) (length ks) i
+  abbrev pub coefficient : (ℕ → Float) → ℕ → Float
+  coefficient y i = Lines.coefficient f system y i

@@ -1,7 +1,9 @@
-// One line of a rectilinear grid, samples to coefficients: the rows of its system, solved one after the other. A caller uses
-// `rectilinear`.
+// The system of an axis of a rectilinear grid, and one line of it, samples to coefficients. A caller uses `rectilinear`.
 #![tactic(auto)]
 
+mod axis;
+mod ends;
 mod line;
 
-pub use line::{Row, at_knot, high_row, low_row, solve_checked, solve_line};
+pub use axis::Axis;
+pub use line::solve_line;

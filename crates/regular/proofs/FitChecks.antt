@@ -1,14 +1,13 @@
 -- The checks of a regular fit, outcome by outcome. Assumes nothing.
 use mathlib.Core.Path.{◌≡◌, sym, ◌∙◌}
 use mathlib.Core.List.{List, [], ◌++◌}
-use Prim.Native.Nat.{ℕ, ◌≤◌, ◌<◌}
+use Prim.Native.Nat.{ℕ, ◌*◌, ◌≤◌, ◌<◌}
 use lib.ListN.{take}
-use Rattle.shape.specs.Shape.{size}
+use Rattle.shape.specs.Shape.{longest, size}
 use Rattle.shape.specs.Checks.{first_refusal, shape_checks, length_check, scratch_check, regular_fit_checks}
 use Rattle.shape.specs.Refusal.{refusal_number}
-use Rattle.shape.specs.Sizes.{coeff_storage_len, construction_scratch_len}
 use Rattle.shape.specs.declared.answers.Refusal.{Refusal}
-use Rattle.shape.proofs.Accepted.{refusal-append, accepted-append, storage-is, scratch-is}
+use Rattle.shape.proofs.Accepted.{refusal-append, accepted-append}
 use Rattle.shape.proofs.Checks.{length-fails, length-passes, scratch-fails, scratch-passes}
 
 module _ (count : ℕ) (lens : List ℕ) (samples coefs scratch : ℕ) where
@@ -23,23 +22,23 @@ module _ (count : ℕ) (lens : List ℕ) (samples coefs scratch : ℕ) where
     unfolding regular_fit_checks
     after-shape = accepted-append count lens ok (length_check (size (take count lens)) coefs ++ (length_check (size (take count lens)) samples ++ scratch_check (take count lens) scratch))
 
-    pub fit-coefs : (coefs ≡ coeff_storage_len count lens → ⊥) → ◌≡◌ {A = ℕ} 2 (first_refusal (regular_fit_checks count lens samples coefs scratch))
-    fit-coefs h = length-fails _ (size (take count lens)) coefs (λ e. h (e ∙ sym (storage-is count lens ok))) ∙ sym after-shape
+    pub fit-coefs : (coefs ≡ size (take count lens) → ⊥) → ◌≡◌ {A = ℕ} 2 (first_refusal (regular_fit_checks count lens samples coefs scratch))
+    fit-coefs h = length-fails _ (size (take count lens)) coefs h ∙ sym after-shape
 
-    module _ (same : coefs ≡ coeff_storage_len count lens) where
+    module _ (same : coefs ≡ size (take count lens)) where
       after-coefs : first_refusal (regular_fit_checks count lens samples coefs scratch) ≡ first_refusal (length_check (size (take count lens)) samples ++ scratch_check (take count lens) scratch)
-      after-coefs = after-shape ∙ length-passes _ (size (take count lens)) coefs (same ∙ storage-is count lens ok)
+      after-coefs = after-shape ∙ length-passes _ (size (take count lens)) coefs same
 
-      pub fit-samples : (samples ≡ coeff_storage_len count lens → ⊥) → ◌≡◌ {A = ℕ} 2 (first_refusal (regular_fit_checks count lens samples coefs scratch))
-      fit-samples h = length-fails _ (size (take count lens)) samples (λ e. h (e ∙ sym (storage-is count lens ok))) ∙ sym after-coefs
+      pub fit-samples : (samples ≡ size (take count lens) → ⊥) → ◌≡◌ {A = ℕ} 2 (first_refusal (regular_fit_checks count lens samples coefs scratch))
+      fit-samples h = length-fails _ (size (take count lens)) samples h ∙ sym after-coefs
 
-      module _ (as_many : samples ≡ coeff_storage_len count lens) where
+      module _ (as_many : samples ≡ size (take count lens)) where
         after-samples : first_refusal (regular_fit_checks count lens samples coefs scratch) ≡ first_refusal (scratch_check (take count lens) scratch)
-        after-samples = after-coefs ∙ length-passes _ (size (take count lens)) samples (as_many ∙ storage-is count lens ok)
+        after-samples = after-coefs ∙ length-passes _ (size (take count lens)) samples as_many
 
-        pub fit-scratch : scratch < construction_scratch_len count lens → ◌≡◌ {A = ℕ} 4 (first_refusal (regular_fit_checks count lens samples coefs scratch))
-        fit-scratch h = scratch-fails [] (take count lens) scratch (rw (scratch-is count lens ok) at h) ∙ sym after-samples
+        pub fit-scratch : scratch < 2 * longest (take count lens) → ◌≡◌ {A = ℕ} 4 (first_refusal (regular_fit_checks count lens samples coefs scratch))
+        fit-scratch h = scratch-fails [] (take count lens) scratch h ∙ sym after-samples
 
-        pub fit_passed : construction_scratch_len count lens ≤ scratch → ◌≡◌ {A = ℕ} 0 (first_refusal (regular_fit_checks count lens samples coefs scratch))
+        pub fit_passed : 2 * longest (take count lens) ≤ scratch → first_refusal (regular_fit_checks count lens samples coefs scratch) ≡ 0
         unfolding first_refusal
-        fit_passed h = sym (after-samples ∙ scratch-passes [] (take count lens) scratch (rw (scratch-is count lens ok) at h))
+        fit_passed h = after-samples ∙ scratch-passes [] (take count lens) scratch h

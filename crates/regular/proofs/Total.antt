@@ -1,13 +1,15 @@
 -- Demand 1 for the regular fit, and what an accepted one may take for granted. Assumes nothing.
-use mathlib.Core.Path.{◌≡◌, sym}
+use mathlib.Core.Path.{◌≡◌, sym, ap, ◌∙◌}
 use mathlib.Core.List.{List}
 use Prim.Native.Nat.{ℕ, ◌*◌, ◌≤◌}
 use native.Mathlib.Omega.{arith}
 use lib.ListN.{length, take}
+use lib.Ieee.{Float, Format}
 use Rattle.shape.specs.Shape.{longest, size}
 use Rattle.shape.specs.Checks.{first_refusal, regular_fit_checks, Positive}
 use Rattle.shape.specs.Usable.{Usable}
 use Rattle.shape.proofs.Outcome.{Tests, none, total, all_hold, shape-test, length-test, scratch-test}
+use Rattle.regular.specs.Fit.{regular_fit, regular_scratch}
 use Rattle.regular.specs.Total.{fit_conditions, FitTotal}
 
 -- what an accepted fit may take for granted
@@ -38,9 +40,13 @@ module _ (count : ℕ) (lens : List ℕ) (samples coefs scratch : ℕ) where
         scratch-room = h.1.1.1.1.1.0;
       }
 
-  -- by the answer of the checks
-  pub fit-range : ◌≡◌ {A = ℕ} 0 (first_refusal (regular_fit_checks count lens samples coefs scratch)) → length lens ≡ 4 → InRange count lens samples coefs scratch
-  fit-range e four = in-range four (sym e)
+-- the fit on axes that are those of the shape
+module _ (f : Format) {count count' : ℕ} {lens lens' : List ℕ} (ec : count' ≡ count) (el : lens' ≡ lens) (samples : List Float) where
+  pub fit-of : {xs : List Float} → xs ≡ regular_fit f (take count' lens') samples → xs ≡ regular_fit f (take count lens) samples
+  fit-of e = rw (ec, el) at e
+
+  pub scratch-of : (scratch : List Float) {ss : List Float} → ss ≡ regular_scratch f (take count' lens') samples scratch → ss ≡ regular_scratch f (take count lens) samples scratch
+  scratch-of scratch e = rw (ec, el) at e
 
 pub fit-total : FitTotal
 fit-total count lens samples coefs scratch four = total (fit-tests count lens samples coefs scratch four)

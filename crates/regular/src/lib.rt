@@ -2,6 +2,8 @@
 #![tactic(auto)]
 
 mod fit;
+mod grid;
 
 pub use fit::coefficients;
+pub use grid::RegularGrid;
 pub use regular_lines::solve_line;

@@ -4,7 +4,10 @@ use Rattle.std.specs.Prelude.{ℕ, ◌-◌, cond, eqb, Float}
 use Rattle.std.specs.Float.Ieee as Ieee
 use Rattle.std.specs.Float.{Format}
 use Rattle.multibspline.specs.Numbers.{f0, f1, f-1, f4, f6}
-use Rattle.multibspline.specs.Thomas.{Row, Reduced, forward, solution}
+use Rattle.multibspline.specs.Thomas.{Row, Reduced}
+use Rattle.lines.specs.Rows as Lines
+use Rattle.lines.specs.Rows.{Rows}
+use Rattle.lines.specs.Turns.{differ_cell}
 
 -- row 0 as it stands is reduced, since its diagonal is 1
 abbrev pub first_row : Format → (ℕ → Float) → Reduced
@@ -21,14 +24,26 @@ last_row f y i = record { lower = f-1; diag = f1; upper = f0; right = Ieee.sub f
 abbrev pub row : Format → ℕ → (ℕ → Float) → ℕ → Row
 row f n y i = cond (eqb i (n - 1)) (last_row f y i) (inner_row f y i)
 
+-- the same rows by their left and right sides: the system of the lines of an axis of n points
+abbrev pub system : Format → ℕ → Rows
+system f n = record {
+  points = n;
+  first_upper = f-1;
+  first_right = differ_cell f;
+  inner = (λ i. record { lower = f1; diag = f4; upper = f1 });
+  inner_right = Ieee.mul f f6;
+  last = record { lower = f-1; diag = f1; upper = f0 };
+  last_right = differ_cell f;
+}
+
 -- row i reduced
 abbrev pub reduced : Format → ℕ → (ℕ → Float) → ℕ → Reduced
-reduced f n y i = forward f (first_row f y) (row f n y) i
+reduced f n y i = Lines.reduced (system f n) y f i
 
 -- its upper number
 abbrev pub upper_number : Format → ℕ → (ℕ → Float) → ℕ → Float
-upper_number f n y i = (reduced f n y i).upper
+upper_number f n y i = Lines.upper_number f (system f n) y i
 
 -- coefficient i
 abbrev pub coefficient : Format → ℕ → (ℕ → Float) → ℕ → Float
-coefficient f n y i = solution f (first_row f y) (row f n y) n i
+coefficient f n y i = Lines.coefficient f (system f n) y i

@@ -1,7 +1,8 @@
-// One line of a regular grid, samples to coefficients: the rows of its system, solved one after the other. A caller uses
-// `regular`.
+// The system of an axis of a regular grid, and one line of it, samples to coefficients. A caller uses `regular`.
 #![tactic(auto)]
 
+mod axis;
 mod line;
 
-pub use line::{solve_checked, solve_line};
+pub use axis::Axis;
+pub use line::solve_line;

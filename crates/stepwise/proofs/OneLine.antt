@@ -1,11 +1,11 @@
 -- One line of a map solved, by the numbers that the code works out, for any way of solving a line. Assumes nothing.
 use mathlib.Core.Path.{◌≡◌}
 use mathlib.Core.List.{List}
-use Prim.Native.Nat.{ℕ, ◌+◌, ◌-◌, ◌≤◌, ◌<◌}
+use Prim.Native.Nat.{ℕ}
 use Rattle.shape.specs.Shape.{longest, points, stride}
-use Rattle.shape.specs.Cells.{on_line, line, write_line}
+use Rattle.shape.specs.Cells.{line, write_line}
 use Rattle.shape.specs.Fit.{solve_line, line_scratch, along}
-use Rattle.shape.specs.Line.{LineIs, LineFits}
+use Rattle.shape.specs.Line.{LineIs}
 use Rattle.shape.specs.declared.line.Line.{Line}
 
 module _ {A : Type 0} (o : A) (upper solve : ℕ → (ℕ → A) → ℕ → A) {dims : List ℕ} {a l : ℕ} {found : Line} (x : LineIs dims a l found) {u v : (ℕ → A) → ℕ → A}
@@ -19,17 +19,3 @@ module _ {A : Type 0} (o : A) (upper solve : ℕ → (ℕ → A) → ℕ → A) 
       → ss' ≡ line_scratch found.longest (u (line o found.base found.stride xs)) (v (line o found.base found.stride xs)) found.n ss
       → ss' ≡ line_scratch (longest dims) (upper a (along o dims a l xs)) (solve a (along o dims a l xs)) (points dims a) ss
   one-scratch w = rw (eu, ev, x.the-points, x.the-stride, x.the-first, x.the-longest) at w
-
--- ---- the same on an axis given by its knots, n of them by the code
-
-module _ {n : ℕ} (found : Line) (same : n ≡ found.n) where
-  pub knots-fit : {coefs scratch : ℕ} → LineFits found coefs scratch
-      → ((4 ≤ n) × (on_line found.base found.stride (n - 1) < coefs)) × ((n ≤ found.longest) × (found.longest + n ≤ scratch))
-  knots-fit w = rw same w
-
-  module _ {A : Type 0} {u v u' v' : (ℕ → A) → ℕ → A} (eu : u ≡ u') (ev : v ≡ v') (y : ℕ → A) where
-    pub knots-coefs : (xs : List A) {xs' : List A} → xs' ≡ write_line found.base found.stride (v y) n xs → xs' ≡ write_line found.base found.stride (v' y) found.n xs
-    knots-coefs xs w = rw (ev, same) at w
-
-    pub knots-scratch : (ss : List A) {ss' : List A} → ss' ≡ line_scratch found.longest (u y) (v y) n ss → ss' ≡ line_scratch found.longest (u' y) (v' y) found.n ss
-    knots-scratch ss w = rw (eu, ev, same) at w

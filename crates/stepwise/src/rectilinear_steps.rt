@@ -15,11 +15,11 @@ ghost use Rattle.ledger.specs.Ready.{ready_checks, call_ready_checks};
 ghost use Rattle.book.specs.LineCall.{begin_answer, call_of, state_of};
 ghost use Rattle.stepwise.specs.Rectilinear.{RectilinearBegun, RectilinearLineCalled};
 
-use knots::{all_rise, axis_knots, grid_len};
+use fits::solve_found;
+use knots::{all_rise, grid_len};
 use ledger::{bump_line, check_held, check_lent, check_scratch, find_due, start};
-use rectilinear_lines::solve_checked;
-use rectilinear_weights::{high_ghost_coeffs, low_ghost_coeffs};
-use shape::{Axes, Line, Refusal, Shape};
+use rectilinear::RectilinearGrid;
+use shape::{Axes, Refusal, Shape};
 
 // ---- what begin and the line call check first
 
@@ -126,40 +126,6 @@ fn check_call(
     Ok(axes)
 }
 
-// A line that is known to be one of the map's is solved.
-fn solve_found(
-    axes: Axes,
-    grid: &[f64],
-    axis: usize,
-    found: Line,
-    coeffs: &mut [f64],
-    scratch: &mut [f64],
-)
-    requires axis_lt_count { (axis < axes.count) × (length grid.now ≡ total (take axes.count axes.dims)) × (found.n ≡ points (take axes.count axes.dims) axis) }
-    requires line_fits { LineFits found (length coeffs.old) (length scratch.old) }
-    ensures coeffs_after { coeffs.new ≡ write_line found.base found.stride
-        (solve binary64 grid.now (take axes.count axes.dims) axis (line nan found.base found.stride coeffs.old))
-        found.n coeffs.old }
-    ensures scratch_after { scratch.new ≡ line_scratch found.longest
-        (upper binary64 grid.now (take axes.count axes.dims) axis (line nan found.base found.stride coeffs.old))
-        (solve binary64 grid.now (take axes.count axes.dims) axis (line nan found.base found.stride coeffs.old))
-        found.n scratch.old }
-{
-    let knots = axis_knots(grid, axes.count, axes.dims, axis);
-    let low_ghost = low_ghost_coeffs(knots);
-    let high_ghost = high_ghost_coeffs(knots);
-    solve_checked(
-        knots,
-        low_ghost,
-        high_ghost,
-        found.base,
-        found.stride,
-        found.longest,
-        coeffs,
-        scratch,
-    );
-}
-
 // A line call whose other checks have passed: what is left to check is the line.
 pub fn call_ready(
     axes: Axes,
@@ -176,7 +142,8 @@ pub fn call_ready(
         (state_of coeffs.new ledger.new) scratch.new }
 {
     let found = find_due(axes, axis, line, ledger)?;
-    solve_found(axes, grid, axis, found, coeffs, scratch);
+    let whole = RectilinearGrid { axes, knots: grid };
+    solve_found(whole, axis, found, coeffs, scratch);
     bump_line(axis, found, ledger);
     Ok(())
 }

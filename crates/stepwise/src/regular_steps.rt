@@ -8,8 +8,9 @@ ghost use Rattle.ledger.specs.Ready.{ready_checks, call_ready_checks};
 ghost use Rattle.book.specs.LineCall.{begin_answer, call_of, state_of};
 ghost use Rattle.stepwise.specs.Regular.{RegularBegun, RegularLineCalled};
 
+use fits::solve_found;
 use ledger::{bump_line, check_held, check_lent, check_scratch, find_due, start};
-use regular_lines::solve_checked;
+use regular::RegularGrid;
 use shape::{Axes, Refusal, Shape};
 
 // ---- what begin and the line call check first
@@ -99,14 +100,7 @@ pub fn call_ready(
         (state_of coeffs.new ledger.new) scratch.new }
 {
     let found = find_due(axes, axis, line, ledger)?;
-    solve_checked(
-        found.base,
-        found.stride,
-        found.n,
-        found.longest,
-        coeffs,
-        scratch,
-    );
+    solve_found(RegularGrid { axes }, axis, found, coeffs, scratch);
     bump_line(axis, found, ledger);
     Ok(())
 }

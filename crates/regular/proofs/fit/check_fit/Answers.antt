@@ -1,32 +1,38 @@
 use mathlib.Core.Path.{sym, ◌∙◌}
-use native.Mathlib.Omega.{arith}
 use Rattle.shape.proofs.Exit.{err-is}
 use Rattle.regular.proofs.FitChecks.{fit-shape, fit-coefs, fit-samples, fit-scratch, fit_passed}
 use Rattle.regular.proofs.fit.check_fit.Goals as goal
 
-pub returns-in_err-check : goal.returns-in_err-check
-returns-in_err-check c =
-    rw (err-is {e = c.in_err-check.field-0.0} c.from_residual.result c.from_residual.ensures.1)
-    (fit-shape _ _ _ _ _ _ c.in_err-check.ensures)
+pub returns-in_err-axes : goal.returns-in_err-axes
+returns-in_err-axes c =
+    rw (err-is {e = c.in_err-axes.field-0.0} c.from_residual.result c.from_residual.ensures.1)
+    (fit-shape _ _ _ _ _ _ c.in_err-axes.ensures)
 
-pub returns-then-coeffs-coeff_storage_len : goal.returns-then-coeffs-coeff_storage_len
-returns-then-coeffs-coeff_storage_len c =
-    let ok = sym c.in_ok-check.ensures in
-    fit-coefs _ _ _ _ _ ok (λ e. c.if-coeffs-coeff_storage_len.true (e ∙ sym c.coeff_storage_len.ensures))
+pub returns-then-coeffs-points : goal.returns-then-coeffs-points
+returns-then-coeffs-points c =
+    let s = c.in_ok-axes.ensures in
+    let points = rw (s.1.0, s.1.1) at c.points.ensures in
+    fit-coefs _ _ _ _ _ s.0 (λ e. c.if-coeffs-points.true (e ∙ sym points))
 
-pub returns-then-vals-coeff_storage_len : goal.returns-then-vals-coeff_storage_len
-returns-then-vals-coeff_storage_len c =
-    let ok = sym c.in_ok-check.ensures in
-    fit-samples _ _ _ _ _ ok (c.if-coeffs-coeff_storage_len.false ∙ c.coeff_storage_len.ensures) (λ e. c.if-vals-coeff_storage_len.true (e ∙ sym c.coeff_storage_len-2.ensures))
+pub returns-then-vals-points : goal.returns-then-vals-points
+returns-then-vals-points c =
+    let s = c.in_ok-axes.ensures in
+    let points = rw (s.1.0, s.1.1) at c.points.ensures in
+    let points-2 = rw (s.1.0, s.1.1) at c.points-2.ensures in
+    fit-samples _ _ _ _ _ s.0 (c.if-coeffs-points.false ∙ points) (λ e. c.if-vals-points.true (e ∙ sym points-2))
 
-pub returns-then-scratch-construction_scratch_len : goal.returns-then-scratch-construction_scratch_len
-returns-then-scratch-construction_scratch_len c =
-    let ok = sym c.in_ok-check.ensures in
-    fit-scratch _ _ _ _ _ ok (c.if-coeffs-coeff_storage_len.false ∙ c.coeff_storage_len.ensures) (c.if-vals-coeff_storage_len.false ∙ c.coeff_storage_len-2.ensures)
-    (omega (arith, c.construction_scratch_len.ensures, c.if-scratch-construction_scratch_len.true))
+pub returns-then-scratch-scratch_len : goal.returns-then-scratch-scratch_len
+returns-then-scratch-scratch_len c =
+    let s = c.in_ok-axes.ensures in
+    let points = rw (s.1.0, s.1.1) at c.points.ensures in
+    let points-2 = rw (s.1.0, s.1.1) at c.points-2.ensures in
+    let room = rw (s.1.0, s.1.1) at c.scratch_len.ensures in
+    fit-scratch _ _ _ _ _ s.0 (c.if-coeffs-points.false ∙ points) (c.if-vals-points.false ∙ points-2) (rw room at c.if-scratch-scratch_len.true)
 
 pub returns : goal.returns
 returns c =
-    let ok = sym c.in_ok-check.ensures in
-    fit_passed _ _ _ _ _ ok (c.if-coeffs-coeff_storage_len.false ∙ c.coeff_storage_len.ensures) (c.if-vals-coeff_storage_len.false ∙ c.coeff_storage_len-2.ensures)
-    (omega (arith, c.construction_scratch_len.ensures, c.if-scratch-construction_scratch_len.false))
+    let s = c.in_ok-axes.ensures in
+    let points = rw (s.1.0, s.1.1) at c.points.ensures in
+    let points-2 = rw (s.1.0, s.1.1) at c.points-2.ensures in
+    let room = rw (s.1.0, s.1.1) at c.scratch_len.ensures in
+    (fit_passed _ _ _ _ _ s.0 (c.if-coeffs-points.false ∙ points) (c.if-vals-points.false ∙ points-2) (rw room at c.if-scratch-scratch_len.false), s.1)

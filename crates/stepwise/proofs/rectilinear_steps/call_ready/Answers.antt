@@ -18,14 +18,17 @@ find_due-requires c =
     let p = call-ready a.axes.count a.axes.dims (grid_check (take a.axes.count a.axes.dims) a.grid.now) (knots_check (take a.axes.count a.axes.dims) a.grid.now) (grid-positive (take a.axes.count a.axes.dims) a.grid.now) (knots-positive (take a.axes.count a.axes.dims) a.grid.now) (length a.coeffs.now) (length a.ledger.now) (length a.scratch.now) (omega (arith, c.well_formed)) c.requires in
     p.ledger-size
 
+pub invariant_of-whole : goal.invariant_of-whole
+invariant_of-whole c =
+    let a = c.args in
+    let p = line-due a.axes.count a.axes.dims (grid_check (take a.axes.count a.axes.dims) a.grid.now) (knots_check (take a.axes.count a.axes.dims) a.grid.now) (grid-positive (take a.axes.count a.axes.dims) a.grid.now) (knots-positive (take a.axes.count a.axes.dims) a.grid.now) (record { axis = a.axis; line = a.line; scratch = a.scratch.now }) (record { coefs = a.coeffs.now; ledger = a.ledger.now }) c.requires (omega (arith, c.well_formed)) c.in_ok-found.ensures in
+    record { joined = joined_is (take a.axes.count a.axes.dims) a.grid.now p.ready.ready.grid-passed }
+
 pub solve_found-requires : goal.solve_found-requires
 solve_found-requires c =
     let a = c.args in
     let p = line-due a.axes.count a.axes.dims (grid_check (take a.axes.count a.axes.dims) a.grid.now) (knots_check (take a.axes.count a.axes.dims) a.grid.now) (grid-positive (take a.axes.count a.axes.dims) a.grid.now) (knots-positive (take a.axes.count a.axes.dims) a.grid.now) (record { axis = a.axis; line = a.line; scratch = a.scratch.now }) (record { coefs = a.coeffs.now; ledger = a.ledger.now }) c.requires (omega (arith, c.well_formed)) c.in_ok-found.ensures in
-    record {
-      axis_lt_count = (p.is-axis, joined_is (take a.axes.count a.axes.dims) a.grid.now p.ready.ready.grid-passed, p.numbers.the-points);
-      line_fits = p.fits;
-    }
+    record { is_axis = (p.numbers.is-axis, p.numbers.the-points); line_fits = p.fits }
 
 pub bump_line-requires : goal.bump_line-requires
 bump_line-requires c =

@@ -1,10 +1,9 @@
-use mathlib.Core.Path.{ap}
+use mathlib.Core.Path.{refl}
 use mathlib.Core.List.{[]}
 use native.Mathlib.Omega.{arith}
 use lib.ListN.{length, take}
 use lib.Ieee.{binary64, nan}
 use Rattle.shape.proofs.Exit.{err-is}
-use Rattle.regular_lines.specs.Rows.{coefficient, upper_number}
 use Rattle.regular.specs.Fit.{solve, upper}
 use Rattle.ledger.proofs.DueBytes.{bumped-is}
 use Rattle.ledger.proofs.Stages.{call-ready}
@@ -18,14 +17,11 @@ find_due-requires c =
     let p = call-ready a.axes.count a.axes.dims [] [] tt tt (length a.coeffs.now) (length a.ledger.now) (length a.scratch.now) (omega (arith, c.well_formed)) c.requires in
     p.ledger-size
 
-pub solve_checked-requires : goal.solve_checked-requires
-solve_checked-requires c =
+pub solve_found-requires : goal.solve_found-requires
+solve_found-requires c =
     let a = c.args in
     let p = line-due a.axes.count a.axes.dims [] [] tt tt (record { axis = a.axis; line = a.line; scratch = a.scratch.now }) (record { coefs = a.coeffs.now; ledger = a.ledger.now }) c.requires (omega (arith, c.well_formed)) c.in_ok-found.ensures in
-    record {
-      le_n = (p.fits).0;
-      n_le_m = (p.fits).1;
-    }
+    record { is_axis = (p.numbers.is-axis, p.numbers.the-points); line_fits = p.fits }
 
 pub bump_line-requires : goal.bump_line-requires
 bump_line-requires c =
@@ -40,9 +36,9 @@ returns c =
     let u = upper binary64 (take a.axes.count a.axes.dims) in
     let v = solve binary64 (take a.axes.count a.axes.dims) in
     called-accepted p.accepted
-    (one-coefs nan u v p.numbers (ap (upper_number binary64) p.numbers.the-points) (ap (coefficient binary64) p.numbers.the-points) a.coeffs.now a.scratch.now c.solve_checked.ensures.coeffs_after)
+    (one-coefs nan u v p.numbers refl refl a.coeffs.now a.scratch.now c.solve_found.ensures.coeffs_after)
     (bumped-is (take a.axes.count a.axes.dims) a.axis a.line a.ledger.now p.numbers c.bump_line.ensures)
-    (one-scratch nan u v p.numbers (ap (upper_number binary64) p.numbers.the-points) (ap (coefficient binary64) p.numbers.the-points) a.coeffs.now a.scratch.now c.solve_checked.ensures.scratch_after)
+    (one-scratch nan u v p.numbers refl refl a.coeffs.now a.scratch.now c.solve_found.ensures.scratch_after)
 
 pub returns-in_err-found : goal.returns-in_err-found
 returns-in_err-found c =

@@ -1,0 +1,36 @@
+use mathlib.Core.Path.{◌≡◌, ap, ◌∙◌}
+use native.Mathlib.Omega.{arith}
+use lib.ListN.{length}
+use lib.Ieee.{binary64}
+use Rattle.shape.proofs.Accepted.{axes-are}
+use Rattle.rectilinear.proofs.Axis.{knots-long, system-is}
+use Rattle.rectilinear.proofs.grid.RectilinearGridGrid.axis.Goals as goal
+
+pub axis_knots-grid-requires : goal.axis_knots-grid-requires
+axis_knots-grid-requires c =
+    let axes = c.args.self.axes in
+    let four : length axes.dims ≡ 4 = omega (arith, c.well_formed) in
+    (rw (axes-are axes.count axes.dims four axes.usable) at c.requires, axes.usable, c.args.self.joined)
+
+pub low_ghost_coeffs-low_ghost-requires : goal.low_ghost_coeffs-low_ghost-requires
+low_ghost_coeffs-low_ghost-requires c =
+    let axes = c.args.self.axes in
+    let four : length axes.dims ≡ 4 = omega (arith, c.well_formed) in
+    knots-long axes.count axes.dims four axes.usable c.args.a (rw (axes-are axes.count axes.dims four axes.usable) at c.requires) c.args.self.knots.now c.args.self.joined c.axis_knots-grid.ensures
+
+pub high_ghost_coeffs-high_ghost-requires : goal.high_ghost_coeffs-high_ghost-requires
+high_ghost_coeffs-high_ghost-requires c =
+    let axes = c.args.self.axes in
+    let four : length axes.dims ≡ 4 = omega (arith, c.well_formed) in
+    knots-long axes.count axes.dims four axes.usable c.args.a (rw (axes-are axes.count axes.dims four axes.usable) at c.requires) c.args.self.knots.now c.args.self.joined c.axis_knots-grid.ensures
+
+pub invariant_of-result : goal.invariant_of-result
+invariant_of-result c =
+    let axes = c.args.self.axes in
+    let four : length axes.dims ≡ 4 = omega (arith, c.well_formed) in
+    record {
+      four = knots-long axes.count axes.dims four axes.usable c.args.a (rw (axes-are axes.count axes.dims four axes.usable) at c.requires) c.args.self.knots.now c.args.self.joined c.axis_knots-grid.ensures;
+    }
+
+pub returns : goal.returns
+returns c = system-is binary64 _ _ _ c.axis_knots-grid.ensures c.low_ghost_coeffs-low_ghost.ensures c.high_ghost_coeffs-high_ghost.ensures
