@@ -11,21 +11,10 @@ pub fn read_full<R: Read>(from: &mut R, buffer: &mut [u8]) -> usize
 {
     let mut done = 0;
     while done < buffer.len() {
-        let got = read_some(from, &mut buffer[done..]);
-        if got == 0 {
-            return done;
+        match from.read(&mut buffer[done..]) {
+            Ok(0) | Err(_) => break,
+            Ok(n) => done += n,
         }
-        done += got;
     }
     done
-}
-
-// One read: 0 where there is no more, or where it fails.
-fn read_some<R: Read>(from: &mut R, buffer: &mut [u8]) -> usize
-    ensures { result ≤ length buffer.new }
-{
-    match from.read(buffer) {
-        Ok(n) => n,
-        Err(_) => 0,
-    }
 }

@@ -1,6 +1,6 @@
 -- Cells are set and compared one after the other. Assumes nothing.
-use mathlib.Core.Path.{◌≡◌, refl, sym, ap, subst, ◌∙◌}
-use mathlib.Core.Bool.{Bool, true, false, not, ◌&&◌}
+use mathlib.Core.Path.{◌≡◌, refl, sym, ap, ◌∙◌}
+use mathlib.Core.Bool.{Bool, true, false, not, ◌&&◌, and-false}
 use mathlib.Core.List.{List, [], ◌∷◌}
 use Prim.Native.Nat.{ℕ, zero, suc, ◌+◌, ◌-◌, ◌≤◌, ◌<◌}
 use native.Mathlib.Numerals.{add-one}
@@ -9,6 +9,7 @@ use lib.ListN.{length, take, drop, set, get_or, length-set, drop_of_length-le}
 use lib.Seq.{drop-cons, take-suc, take-suc-set, take_all}
 use lib.Ieee.{Float, nan, add, binary64}
 use borrow.Author.Tests.{not-true, not-false}
+use Rattle.std.specs.List.{list_all, zip}
 use Rattle.float_text.specs.Bits.{same_bits}
 use Rattle.oracle_list.specs.Cells.{counted, every_pair}
 
@@ -19,35 +20,57 @@ unfolding counted
 length-counted x step zero = refl
 length-counted x step (suc n) = ap suc (length-counted (add binary64 x step) step n)
 
+-- x is the cell after the first i of n
+pub record Counting (first step : Float) (n : ℕ) (x : Float) (i : ℕ) : Type 0 where
+  pub rest : drop i (counted first step n) ≡ counted x step (n - i)
+
+pub Counting-start : (first step : Float) (n : ℕ) → Counting first step n first 0
+Counting-start first step n =
+    let q : n - 0 ≡ n = omega arith in
+    record { rest = rw q }
+
+module _ (first step : Float) (n : ℕ) (x : Float) (i : ℕ) (h : Counting first step n x i) (l : i < n) where
+  counting-parted : get_or (counted first step n) i nan ∷ drop (suc i) (counted first step n) ≡ x ∷ counted (add binary64 x step) step (n - (i + 1))
+  unfolding counted
+  counting-parted =
+      let ahead : n - i ≡ suc (n - (i + 1)) = omega arith in
+      let inside : i < length (counted first step n) = rw length-counted l in
+      sym (drop-cons (counted first step n) i nan inside) ∙ h.rest ∙ rw ahead
+
+  pub Counting-at : get_or (counted first step n) i nan ≡ x
+  Counting-at = let p = counting-parted in cc
+
+  pub Counting-step : Counting first step n (add binary64 x step) (i + 1)
+  Counting-step =
+      let p = counting-parted in
+      let after : drop (suc i) (counted first step n) ≡ counted (add binary64 x step) step (n - (i + 1)) = cc in
+      record { rest = ap (λ (k : ℕ). drop k (counted first step n)) (add-one i) ∙ after }
+
+-- ---- cells that are set
+
 -- the first i cells are set, and x is the next
 pub record Filling (first step : Float) (old new : List Float) (x : Float) (i : ℕ) : Type 0 where
   pub few : i ≤ length old
   pub size : length new ≡ length old
-  pub rest : drop i (counted first step (length old)) ≡ counted x step (length old - i)
+  pub next : Counting first step (length old) x i
   pub done : take i new ≡ take i (counted first step (length old))
 
 pub Filling-start : (first step : Float) (old : List Float) → Filling first step old old first 0
-Filling-start first step old =
-    let q : length old - 0 ≡ length old = omega arith in
-    record { few = omega arith; size = refl; rest = rw q; done = refl }
+Filling-start first step old = record { few = omega arith; size = refl; next = Counting-start first step (length old); done = refl }
 
 pub Filling-step : (first step : Float) (old new : List Float) (x : Float) (i : ℕ) → Filling first step old new x i → i < length new
     → Filling first step old (set new i x) (add binary64 x step) (i + 1)
-unfolding counted
 Filling-step first step old new x i h l =
     let all = counted first step (length old) in
-    let ahead : length old - i ≡ suc (length old - (i + 1)) = omega (arith, h.size) in
-    let inside : i < length all = rw length-counted (omega (arith, h.size)) in
-    let p : get_or all i nan ∷ drop (suc i) all ≡ x ∷ counted (add binary64 x step) step (length old - (i + 1)) =
-    sym (drop-cons all i nan inside) ∙ h.rest ∙ rw ahead
-    in
-    let same : get_or all i nan ≡ x = cc in
-    let after : drop (suc i) all ≡ counted (add binary64 x step) step (length old - (i + 1)) = cc in
+    let before : i < length old = omega (arith, h.size) in
+    let inside : i < length all = rw length-counted before in
     record {
-      few = omega (arith, h.size);
+      few = omega arith;
       size = length-set new i x ∙ h.size;
-      rest = ap (λ (k : ℕ). drop k all) (add-one i) ∙ after;
-      done = rw (add-one i) (take-suc-set new i x l ∙ rw (h.done, ← same) (sym (take-suc all i nan inside)));
+      next = Counting-step first step (length old) x i h.next before;
+      done =
+          rw (add-one i)
+          (take-suc-set new i x l ∙ rw (h.done, ← Counting-at first step (length old) x i h.next before) (sym (take-suc all i nan inside)));
     }
 
 pub Filling-done : (first step : Float) (old new : List Float) (x : Float) (i : ℕ) → Filling first step old new x i → length new ≤ i
@@ -57,40 +80,21 @@ Filling-done first step old new x i h l =
 
 -- ---- two lists, by a test
 
-module _ (test : Float → Float → Bool) where
-  -- the first i pairs pass
-  pub record Pairs (xs ys : List Float) (i : ℕ) : Type 0 where
-    pub few : i ≤ length xs
-    pub rest : every_pair test xs ys ≡ every_pair test (drop i xs) (drop i ys)
+-- the lists are as long, and each of their pairs passes
+pub every_pair-zip : (test : Float → Float → Bool) (xs ys : List Float) → length xs ≡ length ys
+    → every_pair test xs ys ≡ list_all (λ (p : Float × Float). test p.0 p.1) (zip xs ys)
+unfolding every_pair
+every_pair-zip test [] [] e = refl
+every_pair-zip test [] (y ∷ ys) e = absurd (omega arith)
+every_pair-zip test (x ∷ xs) [] e = absurd (omega arith)
+every_pair-zip test (x ∷ xs) (y ∷ ys) e = ap (λ (b : Bool). test x y && b) (every_pair-zip test xs ys (omega arith))
 
-  pub Pairs-start : (xs ys : List Float) → Pairs xs ys 0
-  Pairs-start xs ys = record { few = omega arith; rest = refl }
-
-  module _ (xs ys : List Float) (i : ℕ) (h : Pairs xs ys i) (l : i < length xs) (e : length xs ≡ length ys) (r : Bool) (t : r ≡ test (get_or xs i nan) (get_or ys i nan)) where
-    pairs-parted : every_pair test xs ys ≡ (r && every_pair test (drop (suc i) xs) (drop (suc i) ys))
-    unfolding every_pair
-    pairs-parted = h.rest ∙ rw (drop-cons xs i nan l, drop-cons ys i nan (omega arith), t)
-
-    pub Pairs-step : not r ≡ false → Pairs xs ys (i + 1)
-    Pairs-step n = record { few = omega arith; rest = rw (add-one i) (pairs-parted ∙ rw (not-false r n)) }
-
-    pub Pairs-bad : not r ≡ true → false ≡ every_pair test xs ys
-    Pairs-bad n = sym (pairs-parted ∙ rw (not-true r n))
-
-  pub Pairs-done : (xs ys : List Float) (i : ℕ) → Pairs xs ys i → length xs ≤ i → length xs ≡ length ys → true ≡ every_pair test xs ys
-  unfolding every_pair
-  Pairs-done xs ys i h l e = sym (h.rest ∙ rw (drop_of_length-le xs l, drop_of_length-le ys (subst (λ (n : ℕ). n ≤ i) e l)))
-
-  pub Pairs-length : (xs ys : List Float) → (length xs ≡ length ys → ⊥) → false ≡ every_pair test xs ys
-  unfolding every_pair
-  Pairs-length [] [] n = absurd (n refl)
-  Pairs-length [] (y ∷ ys) n = refl
-  Pairs-length (x ∷ xs) [] n = refl
-  Pairs-length (x ∷ xs) (y ∷ ys) n = go (test x y) (Pairs-length xs ys (λ e. n (ap suc e)))
-    where
-      go : (t : Bool) → false ≡ every_pair test xs ys → false ≡ (t && every_pair test xs ys)
-      go true h = h
-      go false h = refl
+pub every_pair-length : (test : Float → Float → Bool) (xs ys : List Float) → (length xs ≡ length ys → ⊥) → every_pair test xs ys ≡ false
+unfolding every_pair
+every_pair-length test [] [] n = absurd (n refl)
+every_pair-length test [] (y ∷ ys) n = refl
+every_pair-length test (x ∷ xs) [] n = refl
+every_pair-length test (x ∷ xs) (y ∷ ys) n = rw (every_pair-length test xs ys (λ e. n (ap suc e))) (and-false (test x y))
 
 -- ---- cells that still count
 
@@ -123,31 +127,3 @@ unfolding every_pair counted
 Filled-done first step cells x i h l =
     let z : length cells - i ≡ 0 = omega arith in
     sym (h.rest ∙ rw (drop_of_length-le cells l, z))
-
--- ---- the cell that counts next
-
--- x is the cell after the first i of n
-pub record Counting (first step : Float) (n : ℕ) (x : Float) (i : ℕ) : Type 0 where
-  pub rest : drop i (counted first step n) ≡ counted x step (n - i)
-
-pub Counting-start : (first step : Float) (n : ℕ) → Counting first step n first 0
-Counting-start first step n =
-    let q : n - 0 ≡ n = omega arith in
-    record { rest = rw q }
-
-module _ (first step : Float) (n : ℕ) (x : Float) (i : ℕ) (h : Counting first step n x i) (l : i < n) where
-  counting-parted : get_or (counted first step n) i nan ∷ drop (suc i) (counted first step n) ≡ x ∷ counted (add binary64 x step) step (n - (i + 1))
-  unfolding counted
-  counting-parted =
-      let ahead : n - i ≡ suc (n - (i + 1)) = omega arith in
-      let inside : i < length (counted first step n) = rw length-counted l in
-      sym (drop-cons (counted first step n) i nan inside) ∙ h.rest ∙ rw ahead
-
-  pub Counting-at : get_or (counted first step n) i nan ≡ x
-  Counting-at = let p = counting-parted in cc
-
-  pub Counting-step : Counting first step n (add binary64 x step) (i + 1)
-  Counting-step =
-      let p = counting-parted in
-      let after : drop (suc i) (counted first step n) ≡ counted (add binary64 x step) step (n - (i + 1)) = cc in
-      record { rest = ap (λ (k : ℕ). drop k (counted first step n)) (add-one i) ∙ after }

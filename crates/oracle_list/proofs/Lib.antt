@@ -1,4 +1,1 @@
-pub mod Alike
 pub mod CellLaws
-pub mod Turns
-pub mod WordLaws

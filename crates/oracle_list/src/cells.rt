@@ -1,56 +1,17 @@
-// Cells of float buffers: what they hold before a call, and how they compare after it. Only this file makes a float of a word.
+// Cells of float buffers against one another and against the words of a record. Only this file makes a float of a word.
 ghost use Rattle.std.specs.Prelude.{◌≡◌, true, ℕ, ◌+◌, ◌<◌, ◌≤◌, length, get_or};
 ghost use Rattle.std.specs.Float.{nan};
 ghost use Rattle.oracle_list.specs.Agree.{test_of, float_at, CellAgrees, CellsAgree};
-ghost use Rattle.oracle_list.specs.Cells.{counted, same_cells, is_near};
+ghost use Rattle.oracle_list.specs.Cells.{same_cells, is_near};
 
 use crate::words::{number_at, word};
-use float_text::Pattern;
-
-// Cell i is set to `first` plus i steps.
-pub fn fill(first: f64, step: f64, cells: &mut [f64])
-    ensures { cells.new ≡ counted first step (length cells.old) }
-{
-    let mut x = first;
-    let mut i = 0;
-    while i < cells.len() {
-        cells[i] = x;
-        x = x + step;
-        i += 1;
-    }
-}
-
-// Whether the cells are still as `fill` sets them.
-pub fn is_filled(first: f64, step: f64, cells: &[f64]) -> bool
-    ensures { result ≡ same_cells cells.now (counted first step (length cells.now)) }
-{
-    let mut x = first;
-    let mut i = 0;
-    while i < cells.len() {
-        if !float_text::same_bits(cells[i], x) {
-            return false;
-        }
-        x = x + step;
-        i += 1;
-    }
-    true
-}
+use float_text::{float_of, same_bits};
 
 // Whether two lists of cells have the same bits, any NaN for any NaN.
 pub fn same_cells(a: &[f64], b: &[f64]) -> bool
     ensures { result ≡ same_cells a.now b.now }
 {
-    if a.len() != b.len() {
-        return false;
-    }
-    let mut i = 0;
-    while i < a.len() {
-        if !float_text::same_bits(a[i], b[i]) {
-            return false;
-        }
-        i += 1;
-    }
-    true
+    a.len() == b.len() && a.iter().zip(b).all(|(x, y)| same_bits(*x, *y))
 }
 
 // What a cell has to pass with the float of its word: the same bits, any NaN for any NaN; or no further away than a tolerance.
@@ -61,22 +22,22 @@ pub enum Test {
 }
 
 // Whether x is no further than the tolerance from y. A NaN is near nothing.
+#[tactic(auto, unfolding(crate::specs::Cells::is_near))]
 fn is_near(tolerance: f64, x: f64, y: f64) -> bool
     ensures { result ≡ is_near tolerance x y }
 {
     let d = x - y;
-    if d <= tolerance {
-        return -tolerance <= d;
-    }
-    false
+    d <= tolerance && -tolerance <= d
 }
 
-fn passes(test: Test, x: f64, y: f64) -> bool
-    ensures { result ≡ test_of test x y }
-{
-    match test {
-        Test::Same => float_text::same_bits(x, y),
-        Test::Near(tolerance) => is_near(tolerance, x, y),
+impl Test {
+    fn passes(self, x: f64, y: f64) -> bool
+        ensures { result ≡ test_of self x y }
+    {
+        match self {
+            Test::Same => same_bits(x, y),
+            Test::Near(tolerance) => is_near(tolerance, x, y),
+        }
     }
 }
 
@@ -84,10 +45,9 @@ fn passes(test: Test, x: f64, y: f64) -> bool
 pub fn cell_agrees(test: Test, text: &[u8], i: usize, x: f64) -> bool
     ensures { result ≡ true → CellAgrees (test_of test) text.now i x }
 {
-    let pattern = word(text, i);
-    match pattern {
-        Pattern::Bits(bits) => passes(test, x, float_text::float_of(bits)),
-        Pattern::Unreadable => false,
+    match word(text, i) {
+        Some(bits) => test.passes(x, float_of(bits)),
+        None => false,
     }
 }
 
@@ -96,12 +56,10 @@ pub fn cells_agree(test: Test, text: &[u8], first: usize, cells: &[f64]) -> bool
     requires { (first ≤ 65536) × (length cells.now ≤ 65536) }
     ensures { result ≡ true → CellsAgree (test_of test) text.now first cells.now }
 {
-    let mut i: usize = 0;
-    while i < cells.len() {
-        if !cell_agrees(test, text, first + i, cells[i]) {
+    for (i, x) in cells.iter().enumerate() {
+        if !cell_agrees(test, text, first + i, *x) {
             return false;
         }
-        i += 1;
     }
     true
 }
@@ -110,7 +68,7 @@ pub fn cells_agree(test: Test, text: &[u8], first: usize, cells: &[f64]) -> bool
 pub fn float_at(text: &[u8], i: usize) -> f64
     ensures { result ≡ float_at text.now i }
 {
-    float_text::float_of(number_at(text, i))
+    float_of(number_at(text, i))
 }
 
 // The words from word `first` on, as many as there are cells.
@@ -118,42 +76,7 @@ pub fn read_cells(text: &[u8], first: usize, cells: &mut [f64])
     requires { (first ≤ 65536) × (length cells.old ≤ 65536) }
     ensures { (i : ℕ) → i < length cells.new → get_or cells.new i nan ≡ float_at text.now (first + i) }
 {
-    for i in 0..cells.len() {
-        cells[i] = float_at(text, first + i);
+    for (i, cell) in cells.iter_mut().enumerate() {
+        *cell = float_at(text, first + i);
     }
-}
-
-// A buffer of zeros. Its contract has the length alone, so that no proof above sees the zeros.
-pub fn zeros() -> [f64; 3072]
-    ensures { 3072 ≡ length result }
-{
-    [0.0; 3072]
-}
-
-// A buffer that is filled.
-pub fn filled(first: f64, step: f64) -> [f64; 3072]
-    ensures { 3072 ≡ length result }
-{
-    let mut cells = zeros();
-    fill(first, step, &mut cells);
-    cells
-}
-
-// Puts the cells of `from` into the front of `to`.
-fn copy_cells(from: &[f64], to: &mut [f64])
-    requires { length from.now ≤ length to.old }
-{
-    for i in 0..from.len() {
-        to[i] = from[i];
-    }
-}
-
-// What a buffer holds, and zeros after it.
-pub fn copy_of(cells: &[f64]) -> [f64; 3072]
-    requires { length cells.now ≤ 3072 }
-    ensures { 3072 ≡ length result }
-{
-    let mut copy = zeros();
-    copy_cells(cells, &mut copy);
-    copy
 }

@@ -1,5 +1,5 @@
 -- A query by itself, as its record expects it. Assumes nothing.
-use Rattle.std.specs.Prelude.{List, ℕ, ◌+◌, get_or, Float}
+use Rattle.std.specs.Prelude.{List, ℕ, ◌+◌, ◌*◌, ◌<◌, get_or, Float}
 use Rattle.std.specs.Float.{nan, binary64}
 use Rattle.std.specs.Float.Ieee.{of_bits}
 use Rattle.float_text.specs.Bits.{same_bits}
@@ -12,11 +12,8 @@ abbrev pub PartAgrees : List ℕ → ℕ → ℕ → ℕ → List Float → Type
 PartAgrees text i k count parts = WrittenOr text i k count (of_bits binary64 0) (get_or parts k nan)
 
 -- the words of a gradient are n apart
-pub record Sloped (text : List ℕ) (at n count : ℕ) (parts : List Float) : Type 0 where
-  pub part0 : PartAgrees text at 0 count parts
-  pub part1 : PartAgrees text (at + n) 1 count parts
-  pub part2 : PartAgrees text (at + n + n) 2 count parts
-  pub part3 : PartAgrees text (at + n + n + n) 3 count parts
+abbrev pub Sloped : List ℕ → ℕ → ℕ → ℕ → List Float → Type 0
+Sloped text at n count parts = (k : ℕ) → k < 4 → PartAgrees text (at + k * n) k count parts
 
 -- word `at` is the number of both answers, the word n further on the value's, and from the one n further on there is the gradient
 pub record QueryAnswered (text : List ℕ) (at n count valued : ℕ) (value : Float) (sloped : ℕ) (parts : List Float) : Type 0 where

@@ -7,7 +7,7 @@ mod lists;
 mod queries;
 mod texts;
 
-pub use batches::batch_agrees;
+pub use batches::{BatchPlace, batch_agrees};
 pub use fits::fit_agrees;
 pub use lists::{is_kept, list_agrees};
 pub use queries::query_agrees;

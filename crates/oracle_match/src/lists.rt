@@ -2,19 +2,13 @@
 ghost use Rattle.std.specs.Prelude.{◌≡◌, true, ◌≤◌, length};
 ghost use Rattle.oracle_match.specs.Lists.{Kept, ListLeft};
 
-use oracle_list::{Test, bytes_agree};
+use oracle_list::{Filling, Test, bytes_agree, cells_agree, is_filled, same_bytes, same_cells};
 
 // Whether a refused call left all that it was lent as it was: coefficients and ledger as they were kept, and scratch as filled.
 pub fn is_kept(coeffs: &[f64], kept: &[f64], ledger: &[u8], saved: &[u8], scratch: &[f64]) -> bool
     ensures { result ≡ true → Kept coeffs.now kept.now ledger.now saved.now scratch.now }
 {
-    if !oracle_list::same_cells(coeffs, kept) {
-        return false;
-    }
-    if !oracle_list::same_bytes(ledger, saved) {
-        return false;
-    }
-    oracle_list::is_filled(-0.25, -1.0, scratch)
+    same_cells(coeffs, kept) && same_bytes(ledger, saved) && is_filled(Filling::scratch(), scratch)
 }
 
 // A list: its answers, coefficients and ledger, from word `first` on.
@@ -24,11 +18,7 @@ pub fn list_agrees(text: &[u8], first: usize, told: &[u8], coeffs: &[f64], ledge
 {
     let second = first + told.len() * 4;
     let third = second + coeffs.len();
-    if !bytes_agree(text, first + 3, 4, told) {
-        return false;
-    }
-    if !oracle_list::cells_agree(Test::Same, text, second, coeffs) {
-        return false;
-    }
-    bytes_agree(text, third, 1, ledger)
+    bytes_agree(text, first + 3, 4, told)
+        && cells_agree(Test::Same, text, second, coeffs)
+        && bytes_agree(text, third, 1, ledger)
 }

@@ -3,29 +3,23 @@ ghost use Rattle.std.specs.Prelude.{◌≡◌, true, ◌+◌, ◌≤◌};
 ghost use Rattle.oracle_match.specs.Queries.{Sloped, QueryAnswered};
 
 use crate::batches::is_written_or;
-use oracle_list::{Test, is_number};
+use oracle_list::{Test, cell_agrees, is_number};
 
 // The gradient of a query: the part of axis k against word `at + k * n`, and 0 for an axis that is not in use.
 fn parts_agree(text: &[u8], at: usize, n: usize, count: usize, parts: [f64; 4]) -> bool
     requires { (at ≤ 65536) × (n ≤ 1024) }
     ensures { result ≡ true → Sloped text.now at n count parts }
 {
-    let second = at + n;
-    let third = second + n;
-    if !is_written_or(text, at, 0, count, 0.0, parts[0]) {
-        return false;
+    for (k, x) in parts.iter().enumerate() {
+        if !is_written_or(text, at + k * n, k, count, 0.0, *x) {
+            return false;
+        }
     }
-    if !is_written_or(text, second, 1, count, 0.0, parts[1]) {
-        return false;
-    }
-    if !is_written_or(text, third, 2, count, 0.0, parts[2]) {
-        return false;
-    }
-    is_written_or(text, third + n, 3, count, 0.0, parts[3])
+    true
 }
 
 // Query i of n, on `count` axes: the numbers of both its answers against word `first + i`, its value against the word n further
-// on, its gradient from the word n further on.
+// on, its gradient from the word n further on. A refusal's number and a 0 stand beside one another here, as they do in the list.
 pub fn query_agrees(
     text: &[u8],
     first: usize,
@@ -42,14 +36,8 @@ pub fn query_agrees(
 {
     let at = first + i;
     let second = at + n;
-    if !is_number(text, at, valued) {
-        return false;
-    }
-    if !is_number(text, at, sloped) {
-        return false;
-    }
-    if !oracle_list::cell_agrees(Test::Same, text, second, value) {
-        return false;
-    }
-    parts_agree(text, second + n, n, count, parts)
+    is_number(text, at, valued)
+        && is_number(text, at, sloped)
+        && cell_agrees(Test::Same, text, second, value)
+        && parts_agree(text, second + n, n, count, parts)
 }

@@ -5,8 +5,5 @@ ghost use Rattle.std.specs.Prelude.{◌≡◌, true, take};
 pub fn is_text(out: &[u8], n: usize, expected: &[u8]) -> bool
     ensures { result ≡ true → take n out.now ≡ expected.now }
 {
-    if n > out.len() {
-        return false;
-    }
-    oracle_list::same_bytes(&out[..n], expected)
+    n <= out.len() && oracle_list::same_bytes(&out[..n], expected)
 }

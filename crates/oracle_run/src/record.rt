@@ -1,83 +1,76 @@
 // A record of a list: reading it, whether it is whole, and the shape among its words.
-ghost use Rattle.std.specs.Prelude.{◌≡◌, [], ◌∷◌, ◌≤◌, length};
+ghost use Rattle.std.specs.Prelude.{◌≡◌, [], ◌∷◌, ◌/◌, ◌≤◌, ◌↔◌, length, IfOk, IsOk};
+ghost use Rattle.std.specs.Result.{OkIff};
 ghost use Rattle.oracle_list.specs.Words.{number_at};
 
 use full_reads::read_full;
-use oracle_list::size_at;
+use oracle_list::{are_words, number_at, size_at};
 use shape::Shape;
 use std::fs::File;
 
-// How many bytes of a buffer hold the next record; none where the list has no more, or the record cannot be read.
-#[derive(Clone, Copy)]
-pub struct Read {
-    pub bytes: usize,
-    pub is_end: bool,
+// A record that cannot be read, or has not the words that its lengths say.
+#[derive(Clone, Copy, Debug)]
+pub struct Unreadable;
+
+// The grid that a record is on.
+#[derive(Clone, Copy, PartialEq, Eq)]
+pub enum Grid {
+    Regular,
+    Rectilinear,
 }
 
-fn nothing(is_end: bool) -> Read
-    ensures { result.bytes ≡ 0 }
+// Reads the rest of a record behind its first two words: how many bytes it has.
+fn read_words(list: &mut File, text: &mut [u8]) -> Result<usize, Unreadable>
+    requires { 34 ≤ length text.old }
+    ensures { IfOk result (λ n. n ≤ length text.new) }
 {
-    Read {
-        bytes: 0,
-        is_end: is_end,
-    }
-}
-
-// Reads `text` full. Whether there was enough to read.
-fn fill_text(list: &mut File, text: &mut [u8]) -> bool {
-    read_full(list, text) == text.len()
-}
-
-// Reads the rest of a record, `count` words, behind its first two.
-fn read_words(list: &mut File, count: u64, text: &mut [u8]) -> Read
-    ensures { result.bytes ≤ length text.new }
-{
+    let count = number_at(text, 1);
     if count > 3584 {
-        return nothing(false);
+        return Err(Unreadable);
     }
     let n = 34 + count as usize * 17;
-    if n > text.len() {
-        return nothing(false);
+    if n > text.len() || read_full(list, &mut text[34..n]) < n - 34 || !are_words(&text[..n]) {
+        return Err(Unreadable);
     }
-    if !fill_text(list, &mut text[34..n]) {
-        return nothing(false);
-    }
-    if !oracle_list::are_words(&text[..n]) {
-        return nothing(false);
-    }
-    Read {
-        bytes: n,
-        is_end: false,
-    }
+    Ok(n)
 }
 
-// Reads the next record into `text`: its kind, how many words follow, and those, at most 3584 and no more than `text` holds.
-pub fn read_record(list: &mut File, text: &mut [u8]) -> Read
-    ensures { result.bytes ≤ length text.new }
-{
+// Reads the next record into `text`: its kind, how many words follow, and those, at most 3584 and no more than `text` holds. None
+// where the list has no more.
+pub fn read_record<'a>(
+    list: &mut File,
+    text: &'a mut [u8],
+) -> Result<Option<&'a [u8]>, Unreadable> {
     if text.len() < 34 {
-        return nothing(false);
+        return Err(Unreadable);
     }
-    let got = read_full(list, &mut text[..34]);
-    if got == 0 {
-        return nothing(true);
+    match read_full(list, &mut text[..34]) {
+        0 => Ok(None),
+        34 => {
+            let n = read_words(list, text)?;
+            Ok(Some(&text[..n]))
+        }
+        _ => Err(Unreadable),
     }
-    if got < 34 {
-        return nothing(false);
-    }
-    let count = oracle_list::number_at(text, 1);
-    read_words(list, count, text)
 }
 
-// Whether a record has as many words as its lengths say: `first` of them, and `left` more where its answer is 0.
-pub fn is_whole(text: &[u8], first: usize, left: usize, answer: u64) -> bool
-    requires { (first ≤ 65536) × (left ≤ 65536) }
+// That a record has as many words as its lengths say.
+pub fn check_words(text: &[u8], words: usize) -> Result<(), Unreadable>
+    ensures { IsOk result ↔ (length text.now / 17 ≡ words) }
 {
-    let words = text.len() / 17;
-    if answer == 0 {
-        return words == first + left;
+    if text.len() / 17 == words {
+        Ok(())
+    } else {
+        Err(Unreadable)
     }
-    words == first
+}
+
+// Word i as a length that is no more than `most`.
+pub fn length_at(text: &[u8], i: usize, most: usize) -> Result<usize, Unreadable>
+    ensures { OkIff result (number_at text.now i ≤ most) (number_at text.now i) }
+{
+    let n = size_at(text, i);
+    if n <= most { Ok(n) } else { Err(Unreadable) }
 }
 
 // The shape: an axis count from word 2 on, and four lengths.
@@ -93,13 +86,6 @@ pub fn shape_of(text: &[u8]) -> Shape
     ];
     Shape {
         count: size_at(text, 2),
-        dims: dims,
+        dims,
     }
-}
-
-// Room for the text of a record. Its contract has the length alone, so that no proof above sees the zeros.
-pub fn large_buffer() -> [u8; 65536]
-    ensures { 65536 ≡ length result }
-{
-    [0; 65536]
 }

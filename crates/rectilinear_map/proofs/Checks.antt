@@ -16,7 +16,7 @@ use Rattle.shape.proofs.Checks.{check-fails, check-passes, check-passed, length-
 use Rattle.knots.specs.Joined.{total, all_rise}
 use Rattle.knots.specs.Checks.{grid_check, knots_check}
 use Rattle.rectilinear.specs.Fit.{rectilinear_fit_checks}
-use Rattle.rectilinear.proofs.Total.{fit-range, accepted-rise}
+use Rattle.rectilinear.proofs.Total.{fit-accepted, accepted-rise}
 use Rattle.rectilinear_blocks.specs.Eval.{grid_answer, map_checks, map_answer}
 use Rattle.rectilinear_blocks.specs.Sound.{Gridded, Sound}
 
@@ -97,5 +97,5 @@ module _ (count : ℕ) (lens : List ℕ) (grid : List Float) (coefs : ℕ) where
 -- what a map has whose fit is accepted
 pub fit-gridded : (count : ℕ) (lens : List ℕ) (grid : List Float) (samples coefs scratch : ℕ) → length lens ≡ 4 → ◌≡◌ {A = ℕ} 0 (first_refusal (rectilinear_fit_checks count lens grid samples coefs scratch)) → Gridded count lens grid
 fit-gridded count lens grid samples coefs scratch four e =
-    let w = fit-range count lens grid samples coefs scratch four e in
+    let w = fit-accepted count lens grid samples coefs scratch four (sym e) in
     record { shape = w.shape; joined = w.joined; rising = accepted-rise count lens grid samples coefs scratch four w }

@@ -2,78 +2,112 @@
 ghost use Rattle.std.specs.Prelude.{◌≤◌};
 
 use crate::call;
-use oracle_list::{number_at, size_at};
-use oracle_run::{Outcome, is_whole, replayed};
+use oracle_list::number_at;
+use oracle_run::{Grid, Replayed, Unreadable, check_words, length_at};
+
+// Whose answer a record has: the Rust's, a refusal that only the papers define, or a published figure.
+#[derive(Clone, Copy, PartialEq, Eq)]
+enum Source {
+    Rust,
+    Papers,
+    Published,
+}
+
+// The kind of a record.
+#[derive(Clone, Copy)]
+struct Kind {
+    grid: Grid,
+    source: Source,
+}
+
+impl TryFrom<u64> for Kind {
+    type Error = Unreadable;
+
+    fn try_from(number: u64) -> Result<Kind, Unreadable> {
+        let (grid, source) = match number {
+            1 => (Grid::Regular, Source::Rust),
+            2 => (Grid::Regular, Source::Papers),
+            3 => (Grid::Regular, Source::Published),
+            6 => (Grid::Rectilinear, Source::Rust),
+            7 => (Grid::Rectilinear, Source::Papers),
+            _ => return Err(Unreadable),
+        };
+        Ok(Kind { grid, source })
+    }
+}
+
+impl Kind {
+    // Whether a record of this kind may have this many knots and this answer.
+    fn may_have(self, knots: usize, answer: u64) -> bool {
+        let knots_fit = self.grid == Grid::Rectilinear || knots == 0;
+        knots_fit
+            && match self.source {
+                Source::Rust => true,
+                Source::Papers => answer != 0,
+                Source::Published => answer == 0,
+            }
+    }
+}
+
+// The lengths of a record's knots, samples, coefficients and scratch.
+#[derive(Clone, Copy)]
+pub struct Sizes {
+    pub knots: usize,
+    pub samples: usize,
+    pub coeffs: usize,
+    pub scratch: usize,
+    ghost few_knots: { knots ≤ 512 },
+    ghost few_samples: { samples ≤ 2048 },
+    ghost few_coeffs: { coeffs ≤ 2048 },
+    ghost short_scratch: { scratch ≤ 512 },
+}
+
+impl Sizes {
+    fn of(text: &[u8]) -> Result<Sizes, Unreadable> {
+        let knots = length_at(text, 7, 512)?;
+        let samples = length_at(text, 8, 2048)?;
+        let coeffs = length_at(text, 9, 2048)?;
+        let scratch = length_at(text, 10, 512)?;
+        Ok(Sizes {
+            knots,
+            samples,
+            coeffs,
+            scratch,
+        })
+    }
+
+    // How many words a record with this answer has: the buffers after the call only where it is accepted.
+    fn words(self, answer: u64) -> usize {
+        let head = 13 + self.knots + self.samples;
+        if answer == 0 {
+            head + self.coeffs + self.scratch
+        } else {
+            head
+        }
+    }
+}
 
 // The counts of the program: fits, refused calls, published figures.
-fn judge(kind: u64, answer: u64, is_same: bool) -> Outcome {
+fn counts(source: Source, answer: u64) -> [u64; 3] {
     if answer != 0 {
-        return replayed(0, 1, 0, is_same);
+        [0, 1, 0]
+    } else if source == Source::Published {
+        [0, 0, 1]
+    } else {
+        [1, 0, 0]
     }
-    if kind == 3 {
-        return replayed(0, 0, 1, is_same);
-    }
-    replayed(1, 0, 0, is_same)
 }
 
-// A record with g knots, s samples, coefficients of length c and scratch of length w.
-fn replay_sized(text: &[u8], g: usize, s: usize, c: usize, w: usize) -> Outcome
-    requires { (g ≤ 512) × (s ≤ 2048) × (c ≤ 2048) × (w ≤ 512) }
-{
+pub fn replay(text: &[u8]) -> Result<Replayed, Unreadable> {
+    let kind = Kind::try_from(number_at(text, 0))?;
     let answer = number_at(text, 11);
-    if !is_whole(text, 13 + g + s, c + w, answer) {
-        return Outcome::Unreadable;
+    let sizes = Sizes::of(text)?;
+    if !kind.may_have(sizes.knots, answer) {
+        return Err(Unreadable);
     }
-    judge(number_at(text, 0), answer, call::replay(text, g, s, c, w))
-}
-
-// A record of a known kind.
-fn replay_kind(text: &[u8]) -> Outcome {
-    let g = size_at(text, 7);
-    let s = size_at(text, 8);
-    let c = size_at(text, 9);
-    let w = size_at(text, 10);
-    if g > 512 {
-        return Outcome::Unreadable;
-    }
-    if s > 2048 {
-        return Outcome::Unreadable;
-    }
-    if c > 2048 {
-        return Outcome::Unreadable;
-    }
-    if w > 512 {
-        return Outcome::Unreadable;
-    }
-    replay_sized(text, g, s, c, w)
-}
-
-// Whether a record of this kind may have this many knots and this answer.
-fn is_kind(kind: u64, knots: u64, answer: u64) -> bool {
-    if kind == 6 {
-        return true;
-    }
-    if kind == 7 {
-        return answer != 0;
-    }
-    if knots != 0 {
-        return false;
-    }
-    if kind == 1 {
-        return true;
-    }
-    if kind == 2 {
-        return answer != 0;
-    }
-    if kind == 3 {
-        return answer == 0;
-    }
-    false
-}
-
-pub fn replay(text: &[u8]) -> Outcome {
-    if !is_kind(number_at(text, 0), number_at(text, 7), number_at(text, 11)) {
-        return Outcome::Unreadable;
-    }
-    replay_kind(text)
+    check_words(text, sizes.words(answer))?;
+    Ok(Replayed {
+        counts: counts(kind.source, answer),
+        is_same: call::replay(text, kind.grid, sizes),
+    })
 }

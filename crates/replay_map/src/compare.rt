@@ -14,13 +14,10 @@ fn is_printed_for(input: &[u8], spare: &[u8], expected: &[u8]) -> bool
 }
 
 // Whether the program prints what is expected, for an input of any length: it keeps the first 32,768 bytes of a longer one, and a
-// further read gets some of the rest.
+// further read gets the rest.
 pub fn is_printed(input: &[u8], expected: &[u8]) -> bool
     ensures { result ≡ true → program input.now ≡ expected.now }
 {
-    let end = input.len();
-    if end > 32768 {
-        return is_printed_for(&input[..32768], &input[32768..end], expected);
-    }
-    is_printed_for(input, &input[end..end], expected)
+    let (kept, spare) = input.split_at(input.len().min(32768));
+    is_printed_for(kept, spare, expected)
 }

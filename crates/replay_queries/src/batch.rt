@@ -2,154 +2,112 @@
 ghost use Rattle.std.specs.Prelude.{◌≡◌, true, ◌≤◌, length};
 ghost use Rattle.oracle_match.specs.Batches.{BatchLeft};
 
-use crate::map;
+use crate::map::{Map, Rectilinear, Regular};
 use crate::ones::ask_all;
-use crate::record::is_answered;
-use oracle_list::{number_at, size_at};
-use oracle_match::batch_agrees;
+use crate::record::{Queries, Sizes, is_answered};
+use oracle_list::{Filling, array_of, filled, number_at, read_cells, size_at};
+use oracle_match::{BatchPlace, batch_agrees};
+use oracle_run::Grid;
+use shape::{Refusal, answer_number};
 
-// The batch of values, whose answer is word 13, or that of gradients, whose answer is word 15: its answer's number.
-fn run(text: &[u8], at: usize, grid: &[f64], coeffs: &[f64], xs: &[f64], out: &mut [f64]) -> u64 {
-    if at == 13 {
-        return map::values(text, grid, coeffs, xs, out);
-    }
-    map::gradients(text, grid, coeffs, xs, out)
-}
-
-// The same on an output of the length that the record asks for, with words from word `first` on.
-fn is_run_right(
+// Runs a batch on an output of the length that the record asks for: whether it answers and leaves what the record expects.
+fn is_run_right<F: Fn(&mut [f64]) -> Result<(), Refusal>>(
     text: &[u8],
-    at: usize,
-    first: usize,
-    count: usize,
-    n: usize,
-    grid: &[f64],
-    coeffs: &[f64],
-    xs: &[f64],
+    place: BatchPlace,
+    run: F,
     out: &mut [f64],
 ) -> bool
-    requires { (at ≤ 64) × (first ≤ 8192) × (count ≤ 4) × (n ≤ 1024) × (length out.old ≤ 1024) }
-    ensures { result ≡ true → BatchLeft text.now at first count n out.new }
+    requires callable { F.IsAlwaysCallable run }
+    requires few { length out.old ≤ 1024 }
+    ensures { result ≡ true → BatchLeft text.now place.at place.first place.count place.n out.new }
 {
-    let answer = run(text, at, grid, coeffs, xs, out);
-    batch_agrees(text, at, answer, first, count, n, out)
+    let answer = run(out);
+    batch_agrees(text, place, answer_number(answer), out)
 }
 
 // The same on a fresh output; word `size` has its length.
-fn is_batch_right(
+fn is_batch_right<F: Fn(&mut [f64]) -> Result<(), Refusal>>(
     text: &[u8],
     size: usize,
-    at: usize,
-    first: usize,
-    count: usize,
-    n: usize,
-    grid: &[f64],
-    coeffs: &[f64],
-    xs: &[f64],
+    place: BatchPlace,
+    run: F,
 ) -> bool
-    requires { (at ≤ 64) × (first ≤ 8192) × (count ≤ 4) × (n ≤ 1024) }
+    requires { F.IsAlwaysCallable run }
 {
     let m = size_at(text, size);
     if m > 1024 {
         return false;
     }
-    let mut out = oracle_list::filled(0.5, 1.0);
-    is_run_right(text, at, first, count, n, grid, coeffs, xs, &mut out[..m])
+    let mut out = filled(Filling::output());
+    is_run_right(text, place, run, &mut out[..m])
 }
 
 // Whether there are as many coordinates as values on each of up to four axes.
-fn agrees(count: u64, coordinates: u64, values: u64) -> bool {
-    if count > 4 {
-        return false;
-    }
-    if values > 1024 {
-        return false;
-    }
-    coordinates == count * values
+fn agrees(count: u64, coords: u64, values: u64) -> bool {
+    count <= 4 && values <= 1024 && coords == count * values
 }
 
 // Whether building the map answers as the record tells: it accepts a map whose queries are looked at, and refuses another with
-// the record's number. A 2 may be for the number of coordinates, which building does not see, but only where it does not go
+// the record's number. A mismatch may be of the number of coordinates, which building does not see, but only where it does not go
 // with the number of values.
 fn is_built_right(text: &[u8], built: u64) -> bool {
     let wanted = number_at(text, 13);
     if is_answered(text) {
         return built == 0;
     }
-    if built == wanted {
-        return true;
-    }
-    if wanted != 2 {
-        return false;
-    }
-    if agrees(number_at(text, 2), number_at(text, 10), number_at(text, 11)) {
-        return false;
-    }
-    built == 0
+    let may_be_coords = wanted == Refusal::DimensionMismatch.number()
+        && !agrees(number_at(text, 2), number_at(text, 10), number_at(text, 11));
+    built == wanted || (may_be_coords && built == 0)
 }
 
-// A record whose floats have been read: from word `first` on it has what is expected of n queries on `count` axes.
-fn is_map_right(
+// A map that has been built with this answer: from word `first` on the record has what is expected of its queries.
+fn is_map_right<M: Map>(
     text: &[u8],
     first: usize,
-    count: usize,
-    n: usize,
-    grid: &[f64],
-    coeffs: &[f64],
+    queries: Queries,
+    built: Result<(), Refusal>,
+    map: &M,
     xs: &[f64],
 ) -> bool
-    requires { (first ≤ 4096) × (count ≤ 4) × (n ≤ 1024) }
+    requires { first ≤ 4096 }
 {
-    let second = first + n;
-    let third = second + n;
-    if !is_built_right(text, map::built(text, grid, coeffs)) {
-        return false;
-    }
-    if !is_batch_right(text, 11, 13, second, 1, n, grid, coeffs, xs) {
-        return false;
-    }
-    if !is_batch_right(text, 12, 15, third, count, n, grid, coeffs, xs) {
-        return false;
-    }
-    ask_all(text, first, n, count, grid, coeffs, xs)
-}
-
-// The same of floats that have been read: the grid before place g, the coefficients from there to place m, the coordinates.
-fn are_floats_right(text: &[u8], g: usize, m: usize, count: usize, n: usize, floats: &[f64]) -> bool
-    requires { (g ≤ m) × (m ≤ length floats.now) × (length floats.now ≤ 3072) × (count ≤ 4) × (n ≤ 1024) }
-{
-    is_map_right(
-        text,
-        17 + floats.len(),
-        count,
+    let n = queries.n;
+    let values = BatchPlace {
+        at: 13,
+        first: first + n,
+        count: 1,
         n,
-        &floats[..g],
-        &floats[g..m],
-        &floats[m..],
-    )
+    };
+    let gradients = BatchPlace {
+        at: 15,
+        first: first + n + n,
+        count: queries.count,
+        n,
+    };
+    is_built_right(text, answer_number(built))
+        && is_batch_right(text, 11, values, |out| map.values(xs, out))
+        && is_batch_right(text, 12, gradients, |out| map.gradients(xs, out))
+        && ask_all(text, first, queries, map, xs)
 }
 
-// The same, in a buffer into which the floats are read.
-fn is_read_right(
-    text: &[u8],
-    g: usize,
-    m: usize,
-    count: usize,
-    n: usize,
-    floats: &mut [f64],
-) -> bool
-    requires { (g ≤ m) × (m ≤ length floats.old) × (length floats.old ≤ 3072) × (count ≤ 4) × (n ≤ 1024) }
-{
-    oracle_list::read_cells(text, 17, floats);
-    are_floats_right(text, g, m, count, n, floats)
-}
-
-// A record with g floats of a grid, c coefficients and x coordinates: whether all is as it expects.
-pub fn replay(text: &[u8], g: usize, c: usize, x: usize, count: usize, n: usize) -> bool
-    requires { (g ≤ 1024) × (c ≤ 1024) × (x ≤ 1024) × (count ≤ 4) × (n ≤ 1024) }
-{
-    let m = g + c;
-    let end = m + x;
-    let mut floats = oracle_list::zeros();
-    is_read_right(text, g, m, count, n, &mut floats[..end])
+// A record of these sizes: whether all is as it expects of these queries.
+pub fn replay(text: &[u8], grid: Grid, sizes: Sizes, queries: Queries) -> bool {
+    let end = sizes.floats();
+    let mut floats: [f64; 3072] = array_of(0.0);
+    read_cells(text, 17, &mut floats[..end]);
+    let floats = &floats[..end];
+    let m = sizes.grid + sizes.coeffs;
+    let knots = &floats[..sizes.grid];
+    let coeffs = &floats[sizes.grid..m];
+    let xs = &floats[m..];
+    match grid {
+        Grid::Regular => {
+            let (built, map) = Regular::of(text, knots, coeffs);
+            is_map_right(text, 17 + end, queries, built, &map, xs)
+        }
+        Grid::Rectilinear => {
+            let (built, map) = Rectilinear::of(text, knots, coeffs);
+            is_map_right(text, 17 + end, queries, built, &map, xs)
+        }
+    }
 }

@@ -1,30 +1,16 @@
 // The queries of a record by themselves.
-ghost use Rattle.std.specs.Prelude.{◌≡◌, ◌≤◌, length};
+ghost use Rattle.std.specs.Prelude.{◌≡◌, ◌<◌, ◌≤◌, length};
 
-use crate::map;
-use crate::map::float_of;
+use crate::map::{Map, float_of};
+use crate::record::Queries;
+use shape::Refusal;
+use std::array;
 
-// A value's number, and the value: 0 where it is refused.
-#[derive(Clone, Copy)]
-struct One {
-    number: u64,
-    value: f64,
-}
-
-fn one_of(valued: Result<f64, Refusal>) -> One {
-    match valued {
-        Ok(x) => {
-            One {
-                number: 0,
-                value: x,
-            }
-        }
-        Err(refusal) => {
-            One {
-                number: refusal.number(),
-                value: 0.0,
-            }
-        }
+// The number of a refusal, 0 where there is none, beside what is answered, as in the list: zeros where there is nothing.
+fn with_number<T: Copy>(answer: Result<T, Refusal>, none: T) -> (u64, T) {
+    match answer {
+        Ok(x) => (0, x),
+        Err(refusal) => (refusal.number(), none),
     }
 }
 
@@ -33,79 +19,29 @@ fn point(xs: &[f64], n: usize, i: usize) -> [f64; 4]
     requires { (n ≤ 1024) × (i ≤ 1024) }
     ensures { 4 ≡ length result }
 {
-    let second = i + n;
-    let third = second + n;
-    [
-        float_of(xs, i),
-        float_of(xs, second),
-        float_of(xs, third),
-        float_of(xs, third + n),
-    ]
+    array::from_fn(|k| float_of(xs, i + k * n))
 }
 
-// Query i of n: its value and its gradient.
-fn ask(
-    text: &[u8],
-    first: usize,
-    n: usize,
-    i: usize,
-    grid: &[f64],
-    coeffs: &[f64],
-    x: &[f64],
-) -> bool
-    requires { (first ≤ 4096) × (n ≤ 1024) × (i ≤ 1024) }
+// Query i: its value and its gradient.
+fn ask<M: Map>(text: &[u8], first: usize, queries: Queries, i: usize, map: &M, xs: &[f64]) -> bool
+    requires { (first ≤ 4096) × (i < queries.n) }
 {
-    let one = one_of(map::value(text, grid, coeffs, x));
-    let gradient = map::gradient(text, grid, coeffs, x);
-    let answer = gradient.answer;
-    let parts = gradient.parts;
-    oracle_match::query_agrees(
-        text,
-        first,
-        n,
-        i,
-        x.len(),
-        one.number,
-        one.value,
-        answer.number(),
-        parts,
-    )
-}
-
-fn ask_at(
-    text: &[u8],
-    first: usize,
-    n: usize,
-    i: usize,
-    count: usize,
-    grid: &[f64],
-    coeffs: &[f64],
-    xs: &[f64],
-) -> bool
-    requires { (first ≤ 4096) × (n ≤ 1024) × (i ≤ 1024) × (count ≤ 4) }
-{
+    let n = queries.n;
     let x = point(xs, n, i);
-    ask(text, first, n, i, grid, coeffs, &x[..count])
+    let x = &x[..queries.count];
+    let (valued, value) = with_number(map.value(x), 0.0);
+    let (sloped, parts) = with_number(map.gradient(x), [0.0; 4]);
+    oracle_match::query_agrees(text, first, n, i, x.len(), valued, value, sloped, parts)
 }
 
-// Every query of n, on `count` axes: answers from word `first` on, then values, then gradients.
-pub fn ask_all(
-    text: &[u8],
-    first: usize,
-    n: usize,
-    count: usize,
-    grid: &[f64],
-    coeffs: &[f64],
-    xs: &[f64],
-) -> bool
-    requires { (first ≤ 4096) × (n ≤ 1024) × (count ≤ 4) }
+// Every query: answers from word `first` on, then values, then gradients.
+pub fn ask_all<M: Map>(text: &[u8], first: usize, queries: Queries, map: &M, xs: &[f64]) -> bool
+    requires { first ≤ 4096 }
 {
-    let mut i: usize = 0;
-    while i < n {
-        if !ask_at(text, first, n, i, count, grid, coeffs, xs) {
+    for i in 0..queries.n {
+        if !ask(text, first, queries, i, map, xs) {
             return false;
         }
-        i += 1;
     }
     true
 }

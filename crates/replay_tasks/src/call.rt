@@ -1,63 +1,148 @@
-// The calls under test, on the shape of a record: the number of the answer of each.
-use oracle_run::shape_of;
+// The calls under test, on the shape of a record and one grid or the other.
+ghost use Rattle.std.specs.Prelude.{◌≡◌, true, ◌≤◌, length};
+ghost use Rattle.oracle_match.specs.Lists.{ListLeft};
 
-// Kind 11 is rectilinear.
-fn is_rectilinear(text: &[u8]) -> bool {
-    oracle_list::number_at(text, 0) == 11
+use shape::{Refusal, Shape};
+
+// What a stepwise fit keeps between its calls: coefficients and ledger.
+#[derive(Drop)]
+pub struct State<'a> {
+    pub coeffs: &'a mut [f64],
+    pub ledger: &'a mut [u8],
+    ghost few_coeffs: { length coeffs.now ≤ 1024 },
+    ghost short_ledger: { length ledger.now ≤ 1024 },
 }
 
-pub fn begin(
-    text: &[u8],
-    grid: &[f64],
-    samples: &[f64],
-    coeffs: &mut [f64],
-    ledger: &mut [u8],
-    scratch: &[f64],
-) -> u64 {
-    let shape = shape_of(text);
-    if is_rectilinear(text) {
-        return stepwise::begin_rectilinear(shape, grid, samples, coeffs, ledger, scratch).number();
+impl<'a> State<'a> {
+    // Whether it, and the answers of a list of at most 512 calls, are as the words from word `first` on say.
+    pub fn agrees(&self, text: &[u8], first: usize, told: &[u8]) -> bool
+        requires { (first ≤ 8192) × (length told.now ≤ 512) }
+        ensures { result ≡ true → ListLeft text.now first told.now self.now.coeffs.now self.now.ledger.now }
+    {
+        oracle_match::list_agrees(text, first, told, self.coeffs, self.ledger)
     }
-    stepwise::begin_regular(shape, samples, coeffs, ledger, scratch).number()
 }
 
-pub fn solve_line(
-    text: &[u8],
-    grid: &[f64],
-    axis: usize,
-    line: usize,
-    coeffs: &mut [f64],
-    ledger: &mut [u8],
-    scratch: &mut [f64],
-) -> u64 {
-    let shape = shape_of(text);
-    if is_rectilinear(text) {
-        return stepwise::solve_rectilinear_line(
-            shape, grid, axis, line, coeffs, ledger, scratch,
-        ).number();
+// A stepwise fit: its begin, its line call, and its list of line calls.
+pub trait Stepwise {
+    fn begin(&self, samples: &[f64], state: &mut State, scratch: &[f64]) -> Result<(), Refusal>;
+
+    fn solve_line(
+        &self,
+        axis: usize,
+        line: usize,
+        state: &mut State,
+        scratch: &mut [f64],
+    ) -> Result<(), Refusal>;
+
+    fn fit_by_list(
+        &self,
+        samples: &[f64],
+        axes: &[usize],
+        lines: &[usize],
+        state: &mut State,
+        scratch: &mut [f64],
+        told: &mut [u8],
+    ) -> Result<(), Refusal>;
+}
+
+#[derive(Clone, Copy)]
+pub struct Regular {
+    pub shape: Shape,
+}
+
+impl Stepwise for Regular {
+    fn begin(&self, samples: &[f64], state: &mut State, scratch: &[f64]) -> Result<(), Refusal> {
+        stepwise::begin_regular(self.shape, samples, state.coeffs, state.ledger, scratch)
     }
-    stepwise::solve_regular_line(shape, axis, line, coeffs, ledger, scratch).number()
-}
 
-pub fn fit_by_list(
-    text: &[u8],
-    grid: &[f64],
-    samples: &[f64],
-    axes: &[usize],
-    lines: &[usize],
-    coeffs: &mut [f64],
-    ledger: &mut [u8],
-    scratch: &mut [f64],
-    told: &mut [u8],
-) -> u64 {
-    let shape = shape_of(text);
-    if is_rectilinear(text) {
-        return stepwise::fit_rectilinear_by_list(
-            shape, grid, samples, axes, lines, coeffs, ledger, scratch, told,
+    fn solve_line(
+        &self,
+        axis: usize,
+        line: usize,
+        state: &mut State,
+        scratch: &mut [f64],
+    ) -> Result<(), Refusal> {
+        stepwise::solve_regular_line(self.shape, axis, line, state.coeffs, state.ledger, scratch)
+    }
+
+    fn fit_by_list(
+        &self,
+        samples: &[f64],
+        axes: &[usize],
+        lines: &[usize],
+        state: &mut State,
+        scratch: &mut [f64],
+        told: &mut [u8],
+    ) -> Result<(), Refusal> {
+        stepwise::fit_regular_by_list(
+            self.shape,
+            samples,
+            axes,
+            lines,
+            state.coeffs,
+            state.ledger,
+            scratch,
+            told,
         )
-        .number();
     }
-    stepwise::fit_regular_by_list(
-        shape, samples, axes, lines, coeffs, ledger, scratch, told,
-    ).number()
+}
+
+#[derive(Clone, Copy)]
+pub struct Rectilinear<'a> {
+    pub shape: Shape,
+    pub knots: &'a [f64],
+}
+
+impl<'a> Stepwise for Rectilinear<'a> {
+    fn begin(&self, samples: &[f64], state: &mut State, scratch: &[f64]) -> Result<(), Refusal> {
+        stepwise::begin_rectilinear(
+            self.shape,
+            self.knots,
+            samples,
+            state.coeffs,
+            state.ledger,
+            scratch,
+        )
+    }
+
+    fn solve_line(
+        &self,
+        axis: usize,
+        line: usize,
+        state: &mut State,
+        scratch: &mut [f64],
+    ) -> Result<(), Refusal> {
+        stepwise::solve_rectilinear_line(
+            self.shape,
+            self.knots,
+            axis,
+            line,
+            state.coeffs,
+            state.ledger,
+            scratch,
+        )
+    }
+
+    fn fit_by_list(
+        &self,
+        samples: &[f64],
+        axes: &[usize],
+        lines: &[usize],
+        state: &mut State,
+        scratch: &mut [f64],
+        told: &mut [u8],
+    ) -> Result<(), Refusal> {
+        stepwise::fit_rectilinear_by_list(
+            self.shape,
+            self.knots,
+            samples,
+            axes,
+            lines,
+            state.coeffs,
+            state.ledger,
+            scratch,
+            told,
+        )
+    }
 }

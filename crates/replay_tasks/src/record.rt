@@ -1,82 +1,105 @@
 // One record of the list: whether it can be read, and what it counts as.
-ghost use Rattle.std.specs.Prelude.{◌≤◌};
+ghost use Rattle.std.specs.Prelude.{◌≡◌, ◌+◌, ◌≤◌};
 
 use crate::run;
-use oracle_list::{number_at, size_at};
-use oracle_run::{Outcome, is_whole, replayed};
+use oracle_list::number_at;
+use oracle_run::{Grid, Replayed, Unreadable, check_words, length_at};
 
-// A record whose begin is refused: it has no tasks.
-fn replay_refusal(text: &[u8], g: usize, s: usize) -> Outcome
-    requires { (g ≤ 1024) × (s ≤ 1024) }
-{
-    if size_at(text, 13) != 0 {
-        return Outcome::Unreadable;
+// The grid of a record of this kind.
+fn grid_of(kind: u64) -> Result<Grid, Unreadable> {
+    match kind {
+        10 => Ok(Grid::Regular),
+        11 => Ok(Grid::Rectilinear),
+        _ => Err(Unreadable),
     }
-    if !is_whole(text, 14 + g + s, 0, 0) {
-        return Outcome::Unreadable;
-    }
-    replayed(0, 0, 1, run::replay_begin(text, g, s))
 }
 
-// A record with n tasks, coefficients of length c and a ledger of length l.
-fn replay_list(text: &[u8], g: usize, s: usize, n: usize, c: usize, l: usize) -> Outcome
-    requires { (g ≤ 1024) × (s ≤ 1024) × (n ≤ 512) × (c ≤ 1024) × (l ≤ 1024) }
-{
-    if !is_whole(text, 14 + g + s, n * 4 + c + l, 0) {
-        return Outcome::Unreadable;
+// The lengths of a record's knots and samples.
+#[derive(Clone, Copy)]
+pub struct Sizes {
+    pub knots: usize,
+    pub samples: usize,
+    ghost few_knots: { knots ≤ 1024 },
+    ghost few_samples: { samples ≤ 1024 },
+}
+
+impl Sizes {
+    fn of(text: &[u8]) -> Result<Sizes, Unreadable> {
+        let knots = length_at(text, 7, 1024)?;
+        let samples = length_at(text, 8, 1024)?;
+        Ok(Sizes { knots, samples })
     }
-    replayed(1, n as u64, 0, run::replay_list(text, g, s, n, c, l))
+
+    // Both.
+    pub fn floats(self) -> usize
+        ensures sum { result ≡ self.knots + self.samples }
+        ensures few { result ≤ 2048 }
+    {
+        self.knots + self.samples
+    }
+}
+
+// The lengths of the coefficients and of the ledger.
+#[derive(Clone, Copy)]
+pub struct Lengths {
+    pub coeffs: usize,
+    pub ledger: usize,
+    ghost few_coeffs: { coeffs ≤ 1024 },
+    ghost short_ledger: { ledger ≤ 1024 },
+}
+
+impl Lengths {
+    pub fn of(text: &[u8]) -> Result<Lengths, Unreadable> {
+        let coeffs = length_at(text, 9, 1024)?;
+        let ledger = length_at(text, 10, 1024)?;
+        Ok(Lengths { coeffs, ledger })
+    }
+}
+
+// The list of a record whose begin is accepted: from word `first` on it has n tasks, then what they leave.
+#[derive(Clone, Copy)]
+pub struct Tasks {
+    pub first: usize,
+    pub n: usize,
+    pub lengths: Lengths,
+    ghost near: { first ≤ 8192 },
+    ghost few: { n ≤ 512 },
+}
+
+// A record whose begin is refused: it has no tasks.
+fn replay_refusal(text: &[u8], grid: Grid, sizes: Sizes) -> Result<Replayed, Unreadable> {
+    if number_at(text, 13) != 0 {
+        return Err(Unreadable);
+    }
+    check_words(text, 14 + sizes.floats())?;
+    Ok(Replayed {
+        counts: [0, 0, 1],
+        is_same: run::replay(text, grid, sizes, None),
+    })
 }
 
 // A record whose begin is accepted: tasks, coefficients and ledger are no longer than the buffers.
-fn replay_accepted(text: &[u8], g: usize, s: usize) -> Outcome
-    requires { (g ≤ 1024) × (s ≤ 1024) }
-{
-    let n = size_at(text, 13);
-    let c = size_at(text, 9);
-    let l = size_at(text, 10);
-    if n > 512 {
-        return Outcome::Unreadable;
-    }
-    if c > 1024 {
-        return Outcome::Unreadable;
-    }
-    if l > 1024 {
-        return Outcome::Unreadable;
-    }
-    replay_list(text, g, s, n, c, l)
+fn replay_accepted(text: &[u8], grid: Grid, sizes: Sizes) -> Result<Replayed, Unreadable> {
+    let n = length_at(text, 13, 512)?;
+    let lengths = Lengths::of(text)?;
+    let first = 14 + sizes.floats();
+    check_words(text, first + n * 4 + lengths.coeffs + lengths.ledger)?;
+    let tasks = Tasks { first, n, lengths };
+    Ok(Replayed {
+        counts: [1, n as u64, 0],
+        is_same: run::replay(text, grid, sizes, Some(tasks)),
+    })
 }
 
-// A record of a known kind.
-fn replay_kind(text: &[u8]) -> Outcome {
-    let g = size_at(text, 7);
-    let s = size_at(text, 8);
-    if g > 1024 {
-        return Outcome::Unreadable;
-    }
-    if s > 1024 {
-        return Outcome::Unreadable;
+pub fn replay(text: &[u8]) -> Result<Replayed, Unreadable> {
+    let grid = grid_of(number_at(text, 0))?;
+    let sizes = Sizes::of(text)?;
+    if grid == Grid::Regular && sizes.knots != 0 {
+        return Err(Unreadable);
     }
     if number_at(text, 12) != 0 {
-        return replay_refusal(text, g, s);
+        replay_refusal(text, grid, sizes)
+    } else {
+        replay_accepted(text, grid, sizes)
     }
-    replay_accepted(text, g, s)
-}
-
-// Whether a record of this kind may have this many knots.
-fn is_kind(kind: u64, knots: u64) -> bool {
-    if kind == 11 {
-        return true;
-    }
-    if kind == 10 {
-        return knots == 0;
-    }
-    false
-}
-
-pub fn replay(text: &[u8]) -> Outcome {
-    if !is_kind(number_at(text, 0), number_at(text, 7)) {
-        return Outcome::Unreadable;
-    }
-    replay_kind(text)
 }

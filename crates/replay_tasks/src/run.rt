@@ -1,302 +1,174 @@
-// The runs of a record: a begin that is refused, a list by the line call, and the same list by one call. Coefficients, ledger and
+// The runs of a record: a begin that is refused, or a list by the line call and the same list by one call. Coefficients, ledger and
 // answers have the record's lengths.
-ghost use Rattle.std.specs.Prelude.{◌≡◌, true, ◌+◌, ◌≤◌, length};
+ghost use Rattle.std.specs.Prelude.{◌≡◌, true, ◌≤◌, length};
 ghost use Rattle.oracle_match.specs.Lists.{ListLeft};
 
-use crate::call;
-use crate::steps::steps;
-use oracle_list::{filled, filled_bytes, number_at, size_at};
-use oracle_match::{is_kept, list_agrees};
+use crate::call::{Rectilinear, Regular, State, Stepwise};
+use crate::record::{Lengths, Sizes, Tasks};
+use crate::steps::{answer_of, steps};
+use oracle_list::{Filling, array_of, every_fourth, filled, number_at, read_cells};
+use oracle_run::{Grid, length_at, shape_of};
+use shape::Refusal;
 
-// A begin that is to be refused: whether it was, with the right number, and left all as it was.
-fn is_refused(
+// What a run says of fresh buffers.
+fn on_fresh<F: FnOnce(&mut State, &mut [f64; 3072]) -> bool>(lengths: Lengths, run: F) -> bool
+    requires { F.IsAlwaysCallable run }
+{
+    let mut coeffs = filled(Filling::output());
+    let mut ledger: [u8; 1024] = array_of(170);
+    let mut scratch = filled(Filling::scratch());
+    let mut state = State {
+        coeffs: &mut coeffs[..lengths.coeffs],
+        ledger: &mut ledger[..lengths.ledger],
+    };
+    run(&mut state, &mut scratch)
+}
+
+// A begin that is to be refused: whether it was, with the number of word 12, and left all as it was.
+fn is_refused<S: Stepwise>(
     text: &[u8],
-    grid: &[f64],
+    fit: &S,
     samples: &[f64],
-    coeffs: &mut [f64],
-    ledger: &mut [u8],
+    state: &mut State,
     scratch: &mut [f64],
-) -> bool
-    requires { (length coeffs.old ≤ 1024) × (length ledger.old ≤ 1024) }
-{
-    let c = coeffs.len();
-    let l = ledger.len();
-    let kept = filled(0.5, 1.0);
-    let saved = filled_bytes();
-    if call::begin(text, grid, samples, coeffs, ledger, scratch) != number_at(text, 12) {
-        return false;
+) -> bool {
+    let told = answer_of(state, scratch, |state, scratch| {
+        fit.begin(samples, state, scratch)
+    });
+    match told {
+        Ok(number) => u64::from(number) == number_at(text, 12),
+        Err(_) => false,
     }
-    is_kept(coeffs, &kept[..c], ledger, &saved[..l], scratch)
 }
 
-// The same on fresh buffers.
-fn is_refused_on(text: &[u8], grid: &[f64], samples: &[f64]) -> bool {
-    let c = size_at(text, 9);
-    let l = size_at(text, 10);
-    let w = size_at(text, 11);
-    if c > 1024 {
-        return false;
-    }
-    if l > 1024 {
-        return false;
-    }
-    if w > 1024 {
-        return false;
-    }
-    let mut coeffs = filled(0.5, 1.0);
-    let mut ledger = filled_bytes();
-    let mut scratch = filled(-0.25, -1.0);
-    is_refused(
-        text,
-        grid,
-        samples,
-        &mut coeffs[..c],
-        &mut ledger[..l],
-        &mut scratch[..w],
-    )
-}
-
-// The same of floats that have been read: the knots before place g, then the samples.
-fn is_begin_refused(text: &[u8], g: usize, floats: &[f64]) -> bool
-    requires { g ≤ length floats.now }
-{
-    is_refused_on(text, &floats[..g], &floats[g..])
-}
-
-// The same, in a buffer into which the floats are read.
-fn is_begin_refused_in(text: &[u8], g: usize, floats: &mut [f64]) -> bool
-    requires { (g ≤ length floats.old) × (length floats.old ≤ 2048) }
-{
-    oracle_list::read_cells(text, 14, floats);
-    is_begin_refused(text, g, floats)
-}
-
-// A record whose begin is refused, with g knots and s samples: whether all is as it expects.
-pub fn replay_begin(text: &[u8], g: usize, s: usize) -> bool
-    requires { (g ≤ 1024) × (s ≤ 1024) }
-{
-    let end = g + s;
-    let mut floats = oracle_list::zeros();
-    is_begin_refused_in(text, g, &mut floats[..end])
-}
-
-// Begin, on scratch of length w, and the tasks, from word `first` on, by the line call. The number of begin's answer.
-fn run_lines(
+// Begin, on scratch of length w, and the tasks by the line call: whether all is as the words from word `first` on say.
+fn by_lines<S: Stepwise>(
     text: &[u8],
     first: usize,
     w: usize,
-    grid: &[f64],
+    fit: &S,
     samples: &[f64],
-    coeffs: &mut [f64],
-    ledger: &mut [u8],
-    scratch: &mut [f64],
-    told: &mut [u8],
-) -> u64
-    requires { (first ≤ 8192) × (w ≤ length scratch.old) × (length coeffs.old ≤ 1024) × (length ledger.old ≤ 1024) × (length told.old ≤ 512) }
-{
-    let answer = call::begin(text, grid, samples, coeffs, ledger, &scratch[..w]);
-    steps(text, first, grid, coeffs, ledger, scratch, told);
-    answer
-}
-
-// The list by the line call: whether all is as the words from word `first` on say.
-fn by_lines(
-    text: &[u8],
-    first: usize,
-    w: usize,
-    grid: &[f64],
-    samples: &[f64],
-    coeffs: &mut [f64],
-    ledger: &mut [u8],
+    state: &mut State,
     scratch: &mut [f64],
     told: &mut [u8],
 ) -> bool
-    requires { (first ≤ 8192) × (w ≤ length scratch.old) × (length coeffs.old ≤ 1024) × (length ledger.old ≤ 1024) × (length told.old ≤ 512) }
-    ensures { result ≡ true → ListLeft text.now first told.new coeffs.new ledger.new }
+    requires { (first ≤ 8192) × (w ≤ length scratch.old) × (length told.old ≤ 512) }
+    ensures { result ≡ true → ListLeft text.now first told.new state.new.coeffs.now state.new.ledger.now }
 {
-    if run_lines(text, first, w, grid, samples, coeffs, ledger, scratch, told) != 0 {
+    if let Err(_) = fit.begin(samples, state, &scratch[..w]) {
         return false;
     }
-    list_agrees(text, first, told, coeffs, ledger)
+    if steps(text, first, fit, state, scratch, told).is_err() {
+        return false;
+    }
+    state.agrees(text, first, told)
 }
 
-// Every fourth word from word `first` on; zeros past the last.
-fn column(text: &[u8], first: usize) -> [usize; 512]
-    requires { first ≤ 65536 }
-    ensures { 512 ≡ length result }
-{
-    let mut words = [0usize; 512];
-    oracle_list::every_fourth(text, first, &mut words);
-    words
-}
-
-// The list by one call, on scratch of begin's length. The number of its answer.
-fn run_list(
+// The list by one call, on scratch of begin's length: whether all is as the words from word `first` on say.
+fn by_list<S: Stepwise>(
     text: &[u8],
     first: usize,
-    grid: &[f64],
+    fit: &S,
     samples: &[f64],
-    coeffs: &mut [f64],
-    ledger: &mut [u8],
+    state: &mut State,
     scratch: &mut [f64],
     told: &mut [u8],
-) -> u64
+) -> bool
     requires { (first ≤ 8192) × (length told.old ≤ 512) }
+    ensures { result ≡ true → ListLeft text.now first told.new state.new.coeffs.now state.new.ledger.now }
 {
     let n = told.len();
-    let axes = column(text, first);
-    let lines = column(text, first + 1);
-    call::fit_by_list(
-        text,
-        grid,
-        samples,
-        &axes[..n],
-        &lines[..n],
-        coeffs,
-        ledger,
-        scratch,
-        told,
-    )
-}
-
-// Whether all is as the words from word `first` on say.
-fn by_list(
-    text: &[u8],
-    first: usize,
-    grid: &[f64],
-    samples: &[f64],
-    coeffs: &mut [f64],
-    ledger: &mut [u8],
-    scratch: &mut [f64],
-    told: &mut [u8],
-) -> bool
-    requires { (first ≤ 8192) × (length coeffs.old ≤ 1024) × (length ledger.old ≤ 1024) × (length told.old ≤ 512) }
-    ensures { result ≡ true → ListLeft text.now first told.new coeffs.new ledger.new }
-{
-    if run_list(text, first, grid, samples, coeffs, ledger, scratch, told) != 0 {
+    let mut axes: [usize; 512] = array_of(0);
+    every_fourth(text, first, &mut axes);
+    let mut lines: [usize; 512] = array_of(0);
+    every_fourth(text, first + 1, &mut lines);
+    if let Err(_) = fit.fit_by_list(samples, &axes[..n], &lines[..n], state, scratch, told) {
         return false;
     }
-    list_agrees(text, first, told, coeffs, ledger)
+    state.agrees(text, first, told)
 }
 
-// The list by the line call on fresh buffers: n answers, c coefficients, a ledger of l bytes.
-fn by_lines_on(
-    text: &[u8],
-    first: usize,
-    n: usize,
-    c: usize,
-    l: usize,
-    w: usize,
-    grid: &[f64],
-    samples: &[f64],
-) -> bool
-    requires { (first ≤ 8192) × (n ≤ 512) × (c ≤ 1024) × (l ≤ 1024) × (w ≤ 1024) }
-{
-    let mut coeffs = filled(0.5, 1.0);
-    let mut ledger = filled_bytes();
-    let mut scratch = filled(-0.25, -1.0);
-    let mut told = filled_bytes();
-    by_lines(
-        text,
-        first,
-        w,
-        grid,
-        samples,
-        &mut coeffs[..c],
-        &mut ledger[..l],
-        &mut scratch,
-        &mut told[..n],
-    )
-}
-
-// The list by one call on fresh buffers.
-fn by_list_on(
-    text: &[u8],
-    first: usize,
-    n: usize,
-    c: usize,
-    l: usize,
-    w: usize,
-    grid: &[f64],
-    samples: &[f64],
-) -> bool
-    requires { (first ≤ 8192) × (n ≤ 512) × (c ≤ 1024) × (l ≤ 1024) × (w ≤ 1024) }
-{
-    let mut coeffs = filled(0.5, 1.0);
-    let mut ledger = filled_bytes();
-    let mut scratch = filled(-0.25, -1.0);
-    let mut told = filled_bytes();
-    by_list(
-        text,
-        first,
-        grid,
-        samples,
-        &mut coeffs[..c],
-        &mut ledger[..l],
-        &mut scratch[..w],
-        &mut told[..n],
-    )
-}
-
-// Whether some call of the list is answered 4, as its scratch is too short.
-fn has_short(text: &[u8], first: usize, n: usize) -> bool
-    requires { (first ≤ 8192) × (n ≤ 512) }
-{
-    let mut i: usize = 0;
-    while i < n {
-        if number_at(text, first + i * 4 + 3) == 4 {
+// Whether some call of the list is refused for its short scratch.
+fn has_short(text: &[u8], tasks: Tasks) -> bool {
+    let short = Refusal::ScratchTooSmall.number();
+    for i in 0..tasks.n {
+        if number_at(text, tasks.first + i * 4 + 3) == short {
             return true;
         }
-        i += 1;
     }
     false
 }
 
-// Both ways; a list with a call whose scratch is too short only by the line call.
-fn both_ways(
-    text: &[u8],
-    first: usize,
-    n: usize,
-    c: usize,
-    l: usize,
-    grid: &[f64],
-    samples: &[f64],
-) -> bool
-    requires { (first ≤ 8192) × (n ≤ 512) × (c ≤ 1024) × (l ≤ 1024) }
-{
-    let w = size_at(text, 11);
-    if w > 1024 {
+// A record whose begin is refused.
+fn is_refusal_right<S: Stepwise>(text: &[u8], fit: &S, samples: &[f64]) -> bool {
+    let Ok(lengths) = Lengths::of(text) else {
         return false;
-    }
-    if !by_lines_on(text, first, n, c, l, w, grid, samples) {
+    };
+    let Ok(w) = length_at(text, 11, 1024) else {
         return false;
+    };
+    on_fresh(lengths, |state, scratch| {
+        is_refused(text, fit, samples, state, &mut scratch[..w])
+    })
+}
+
+// A record with tasks, both ways; a list with a call whose scratch is too short only by the line call.
+fn is_list_right<S: Stepwise>(text: &[u8], tasks: Tasks, fit: &S, samples: &[f64]) -> bool {
+    let Ok(w) = length_at(text, 11, 1024) else {
+        return false;
+    };
+    let first = tasks.first;
+    let n = tasks.n;
+    let lines = on_fresh(
+        tasks.lengths,
+        |state, scratch|
+            requires { (first ≤ 8192) × (w ≤ 1024) × (n ≤ 512) }
+        {
+            let mut told: [u8; 512] = array_of(170);
+            by_lines(text, first, w, fit, samples, state, scratch, &mut told[..n])
+        },
+    );
+    if !lines || has_short(text, tasks) {
+        return lines;
     }
-    if has_short(text, first, n) {
-        return true;
+    on_fresh(
+        tasks.lengths,
+        |state, scratch|
+            requires { (first ≤ 8192) × (w ≤ 1024) × (n ≤ 512) }
+        {
+            let mut told: [u8; 512] = array_of(170);
+            by_list(
+                text,
+                first,
+                fit,
+                samples,
+                state,
+                &mut scratch[..w],
+                &mut told[..n],
+            )
+        },
+    )
+}
+
+// A record whose floats have been read; it has tasks where its begin is accepted.
+fn is_right<S: Stepwise>(text: &[u8], tasks: Option<Tasks>, fit: &S, samples: &[f64]) -> bool {
+    match tasks {
+        Some(tasks) => is_list_right(text, tasks, fit, samples),
+        None => is_refusal_right(text, fit, samples),
     }
-    by_list_on(text, first, n, c, l, w, grid, samples)
 }
 
-// The same of floats that have been read: the knots before place g, then the samples.
-fn is_list_right(text: &[u8], g: usize, n: usize, c: usize, l: usize, floats: &[f64]) -> bool
-    requires { (g ≤ length floats.now) × (length floats.now ≤ 2048) × (n ≤ 512) × (c ≤ 1024) × (l ≤ 1024) }
-{
-    both_ways(text, 14 + floats.len(), n, c, l, &floats[..g], &floats[g..])
-}
-
-// The same, in a buffer into which the floats are read.
-fn is_list_right_in(text: &[u8], g: usize, n: usize, c: usize, l: usize, floats: &mut [f64]) -> bool
-    requires { (g ≤ length floats.old) × (length floats.old ≤ 2048) × (n ≤ 512) × (c ≤ 1024) × (l ≤ 1024) }
-{
-    oracle_list::read_cells(text, 14, floats);
-    is_list_right(text, g, n, c, l, floats)
-}
-
-// A record whose begin is accepted, with g knots, s samples and n tasks: whether all is as it expects.
-pub fn replay_list(text: &[u8], g: usize, s: usize, n: usize, c: usize, l: usize) -> bool
-    requires { (g ≤ 1024) × (s ≤ 1024) × (n ≤ 512) × (c ≤ 1024) × (l ≤ 1024) }
-{
-    let end = g + s;
-    let mut floats = oracle_list::zeros();
-    is_list_right_in(text, g, n, c, l, &mut floats[..end])
+// A record of these sizes: whether all is as it expects.
+pub fn replay(text: &[u8], grid: Grid, sizes: Sizes, tasks: Option<Tasks>) -> bool {
+    let end = sizes.floats();
+    let mut floats: [f64; 2048] = array_of(0.0);
+    read_cells(text, 14, &mut floats[..end]);
+    let floats = &floats[..end];
+    let knots = &floats[..sizes.knots];
+    let samples = &floats[sizes.knots..];
+    let shape = shape_of(text);
+    match grid {
+        Grid::Regular => is_right(text, tasks, &Regular { shape }, samples),
+        Grid::Rectilinear => is_right(text, tasks, &Rectilinear { shape, knots }, samples),
+    }
 }

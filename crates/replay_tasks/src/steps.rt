@@ -1,96 +1,79 @@
 // A list by the line call, one task after the other.
-ghost use Rattle.std.specs.Prelude.{◌≡◌, ◌+◌, ◌*◌, ◌≤◌, length};
+ghost use Rattle.std.specs.Prelude.{◌≡◌, ◌≤◌, length};
 
-use crate::call;
-use oracle_list::size_at;
+use crate::call::{State, Stepwise};
+use oracle_list::{Filling, array_of, copy_of, fill, size_at};
+use oracle_match::is_kept;
+use shape::Refusal;
 
-// One call, on scratch of its length: its answer as a byte, or 255 where it is refused and does not leave all as it was, with
-// coefficients and ledger as they are kept in `kept` and `saved`.
-fn step_from(
-    text: &[u8],
-    grid: &[f64],
-    axis: usize,
-    line: usize,
-    kept: &[f64],
-    saved: &[u8],
-    coeffs: &mut [f64],
-    ledger: &mut [u8],
-    scratch: &mut [f64],
-) -> u8 {
-    oracle_list::fill(-0.25, -1.0, scratch);
-    let answer = call::solve_line(text, grid, axis, line, coeffs, ledger, scratch);
-    if answer == 0 {
-        return 0;
-    }
-    if !oracle_match::is_kept(coeffs, kept, ledger, saved, scratch) {
-        return 255;
-    }
-    oracle_list::byte_of(answer)
+// A task that has no answer to compare.
+#[derive(Clone, Copy)]
+pub enum Misstep {
+    // it wants more scratch than there is
+    ScratchTooLong,
+    // it is refused and does not leave all as it was
+    NotKept,
 }
 
-fn step(
-    text: &[u8],
-    grid: &[f64],
-    axis: usize,
-    line: usize,
-    coeffs: &mut [f64],
-    ledger: &mut [u8],
+// What a call answers on scratch that has been filled, as a byte; a refused call has to leave all as it was.
+pub fn answer_of<F: FnOnce(&mut State, &mut [f64]) -> Result<(), Refusal>>(
+    state: &mut State,
     scratch: &mut [f64],
-) -> u8
-    requires { (length coeffs.old ≤ 1024) × (length ledger.old ≤ 1024) }
+    call: F,
+) -> Result<u8, Misstep>
+    requires { F.IsAlwaysCallable call }
 {
-    let c = coeffs.len();
-    let l = ledger.len();
-    let kept = oracle_list::copy_of(coeffs);
-    let saved = oracle_list::copy_of_bytes(ledger);
-    step_from(
-        text,
-        grid,
-        axis,
-        line,
-        &kept[..c],
-        &saved[..l],
-        coeffs,
-        ledger,
-        scratch,
-    )
+    let c = state.coeffs.len();
+    let l = state.ledger.len();
+    let kept: [f64; 1024] = copy_of(state.coeffs, 0.0);
+    let saved: [u8; 1024] = copy_of(state.ledger, 0);
+    fill(Filling::scratch(), scratch);
+    match call(state, scratch) {
+        Ok(()) => Ok(0),
+        Err(refusal) => {
+            if is_kept(state.coeffs, &kept[..c], state.ledger, &saved[..l], scratch) {
+                Ok(refusal.number() as u8)
+            } else {
+                Err(Misstep::NotKept)
+            }
+        }
+    }
 }
 
 // The task at word `at`: axis, line, length of the scratch that the call is lent, answer.
-fn step_at(
+fn step_at<S: Stepwise>(
     text: &[u8],
     at: usize,
-    grid: &[f64],
-    coeffs: &mut [f64],
-    ledger: &mut [u8],
+    fit: &S,
+    state: &mut State,
     scratch: &mut [f64],
-) -> u8
-    requires { (at ≤ 65536) × (length coeffs.old ≤ 1024) × (length ledger.old ≤ 1024) }
+) -> Result<u8, Misstep>
+    requires { at ≤ 65536 }
 {
     let axis = size_at(text, at);
     let line = size_at(text, at + 1);
     let w = size_at(text, at + 2);
     if w > scratch.len() {
-        return 255;
+        return Err(Misstep::ScratchTooLong);
     }
-    step(text, grid, axis, line, coeffs, ledger, &mut scratch[..w])
+    answer_of(state, &mut scratch[..w], |state, scratch| {
+        fit.solve_line(axis, line, state, scratch)
+    })
 }
 
-// Every task; the words of the first start at word `first`.
-pub fn steps(
+// Every task; the words of the first start at word `first`. Their answers go into `told`.
+pub fn steps<S: Stepwise>(
     text: &[u8],
     first: usize,
-    grid: &[f64],
-    coeffs: &mut [f64],
-    ledger: &mut [u8],
+    fit: &S,
+    state: &mut State,
     scratch: &mut [f64],
     told: &mut [u8],
-)
-    requires { (first ≤ 8192) × (length coeffs.old ≤ 1024) × (length ledger.old ≤ 1024) × (length told.old ≤ 512) }
+) -> Result<(), Misstep>
+    requires { (first ≤ 8192) × (length told.old ≤ 512) }
 {
-    let mut i: usize = 0;
-    while i < told.len() {
-        told[i] = step_at(text, first + i * 4, grid, coeffs, ledger, scratch);
-        i += 1;
+    for (i, byte) in told.iter_mut().enumerate() {
+        *byte = step_at(text, first + i * 4, fit, state, scratch)?;
     }
+    Ok(())
 }
