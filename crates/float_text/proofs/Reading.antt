@@ -10,7 +10,7 @@ use lib.ListN.{length, drop, get_or, drop_of_length-le}
 use lib.Seq.{drop-cons}
 use borrow.Author.Tests.{lt-ltb, le-ltb}
 use Rattle.float_text.specs.Digits.{number_from, digit_of}
-use Rattle.float_text.specs.declared.Pattern.TheVariants.{Bits, Unreadable}
+use Rattle.std.specs.Prelude.{Some, None}
 
 pub record Reading (base : ℕ) (text : List ℕ) (n i : ℕ) : Type 0 where
   pub within : i ≤ length text
@@ -40,10 +40,10 @@ module _ (base : ℕ) (text : List ℕ) (n i d : ℕ) (h : Reading base text n i
       rest = h.rest ∙ rw (add-one i, drop-cons text i 0 l, ← e, lt-ltb d base g);
     }
 
-    pub Reading-bad : base ≤ d → Unreadable ≡ number_from base 0 text
+    pub Reading-bad : base ≤ d → None ≡ number_from base 0 text
     unfolding number_from
     Reading-bad g = sym (h.rest ∙ rw (drop-cons text i 0 l, ← e, le-ltb d base g))
 
-pub Reading-done : (base : ℕ) (text : List ℕ) (n i : ℕ) → Reading base text n i → length text ≤ i → Bits n ≡ number_from base 0 text
+pub Reading-done : (base : ℕ) (text : List ℕ) (n i : ℕ) → Reading base text n i → length text ≤ i → Some n ≡ number_from base 0 text
 unfolding number_from
 Reading-done base text n i h l = sym (h.rest ∙ rw (drop_of_length-le text l))

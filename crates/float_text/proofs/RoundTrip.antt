@@ -13,8 +13,7 @@ use lib.Ieee.Bits.{of_bits-to_bits, to_bits-lt, to_bits-of_bits}
 use borrow.Author.Tests.{lt-ltb, le-ltb, eq-eqb, ltb-true, ltb-false, eqb-true}
 use Rattle.float_text.specs.Digits.{number_from, digit_of, digits_of, letter_of}
 use Rattle.float_text.specs.Bits.{bits_in, bits_text, float_in, float_text, same_bits}
-use Rattle.float_text.specs.declared.Pattern.TheVariants.{Bits, Unreadable}
-use Rattle.float_text.specs.declared.Value.TheVariants.{Float as Float·}
+use Rattle.std.specs.Prelude.{Some, None}
 use Rattle.float_text.proofs.Writing.{length_digits}
 
 -- ---- digits
@@ -37,14 +36,14 @@ sum acc base d r p n e = rw (add-mul (acc * base) d p, mul_assoc acc base p, mul
 
 -- k digits of a number below base ^ k are read as it
 pub read-digits : (base : ℕ) → 0 < base → base ≤ 16 → (k acc n : ℕ) → n < base ^ k
-    → number_from base acc (digits_of base k n) ≡ Bits (acc * base ^ k + n)
+    → number_from base acc (digits_of base k n) ≡ Some (acc * base ^ k + n)
 unfolding number_from digits_of
-read-digits base p b zero acc n h = ap Bits (let z : n < 1 = rw pow-zero at h in rw (pow-zero base) (omega arith))
+read-digits base p b zero acc n h = ap Some (let z : n < 1 = rw pow-zero at h in rw (pow-zero base) (omega arith))
 read-digits base p b (suc k) acc n h =
     let q : n / base ^ k < base = (div-lt_iff_lt-mul (one-le-pow k base p)).1 (rw pow-succ' at h) in
     rw (digit-letter (n / base ^ k) (lt_of_lt_of_le q b), lt-ltb _ _ q)
     (read-digits base p b k (acc * base + n / base ^ k) (n % base ^ k) (mod-lt n (one-le-pow k base p))
-    ∙ ap Bits (rw (pow-suc base k) (sum acc base (n / base ^ k) (n % base ^ k) (base ^ k) n (div-add-mod' n (base ^ k)))))
+    ∙ ap Some (rw (pow-suc base k) (sum acc base (n / base ^ k) (n % base ^ k) (base ^ k) n (div-add-mod' n (base ^ k)))))
 
 -- a digit is written as its letter
 pub letter-digit : (b : ℕ) → digit_of b < 16 → letter_of (digit_of b) ≡ b
@@ -86,7 +85,7 @@ module _ (base : ℕ) (few : base ≤ 16) where
         (digits_div (digit_of b) h.below, digits_mod (digit_of b) h.below, letter-digit b (lt_of_lt_of_le l few), h.written);
   }
 
-  pub were-read : (text : List ℕ) (acc n : ℕ) → number_from base acc text ≡ Bits n → WereRead base acc n text
+  pub were-read : (text : List ℕ) (acc n : ℕ) → number_from base acc text ≡ Some n → WereRead base acc n text
   unfolding number_from digits_of
   were-read [] acc n e =
       let z : acc ≡ n = cc in
@@ -98,8 +97,8 @@ module _ (base : ℕ) (few : base ≤ 16) where
       }
   were-read (b ∷ text) acc n e = go (ltb (digit_of b) base) refl e (were-read text (acc * base + digit_of b) n)
     where
-      go : (t : Bool) → ltb (digit_of b) base ≡ t → cond t (number_from base (acc * base + digit_of b) text) Unreadable ≡ Bits n
-          → (number_from base (acc * base + digit_of b) text ≡ Bits n → WereRead base (acc * base + digit_of b) n text)
+      go : (t : Bool) → ltb (digit_of b) base ≡ t → cond t (number_from base (acc * base + digit_of b) text) None ≡ Some n
+          → (number_from base (acc * base + digit_of b) text ≡ Some n → WereRead base (acc * base + digit_of b) n text)
           → WereRead base acc n (b ∷ text)
       go true l f ih = one_more b acc n text (ltb-true (digit_of b) base l) (ih f)
       go false l f ih = absurd (let z : ◌≡◌ {A = ℕ} 0 1 = cc in let y : ⊥ = omega arith in y)
@@ -107,21 +106,21 @@ module _ (base : ℕ) (few : base ≤ 16) where
 -- ---- 64 bits
 
 -- what is written is read back
-pub read-written : (n : ℕ) → n < 2 ^ 64 → bits_in (bits_text n) ≡ Bits n
+pub read-written : (n : ℕ) → n < 2 ^ 64 → bits_in (bits_text n) ≡ Some n
 unfolding bits_in bits_text
 read-written n h =
-    rw (eq-eqb _ _ (length_digits 16 16 n)) (read-digits 16 (omega arith) (omega arith) 16 0 n h ∙ ap Bits (omega arith))
+    rw (eq-eqb _ _ (length_digits 16 16 n)) (read-digits 16 (omega arith) (omega arith) 16 0 n h ∙ ap Some (omega arith))
 
 -- what is read has 16 digits
-read_length : (text : List ℕ) (n : ℕ) → bits_in text ≡ Bits n → (length text ≡ 16) × (number_from 16 0 text ≡ Bits n)
+read_length : (text : List ℕ) (n : ℕ) → bits_in text ≡ Some n → (length text ≡ 16) × (number_from 16 0 text ≡ Some n)
 unfolding bits_in
 read_length text n = go (eqb (length text) 16) refl
   where
-    go : (t : Bool) → eqb (length text) 16 ≡ t → cond t (number_from 16 0 text) Unreadable ≡ Bits n → (length text ≡ 16) × (number_from 16 0 text ≡ Bits n)
+    go : (t : Bool) → eqb (length text) 16 ≡ t → cond t (number_from 16 0 text) None ≡ Some n → (length text ≡ 16) × (number_from 16 0 text ≡ Some n)
     go true l e = (eqb-true (length text) 16 l, e)
     go false l e = absurd (let z : ◌≡◌ {A = ℕ} 0 1 = cc in let y : ⊥ = omega arith in y)
 
-module _ (text : List ℕ) (n : ℕ) (e : bits_in text ≡ Bits n) where
+module _ (text : List ℕ) (n : ℕ) (e : bits_in text ≡ Some n) where
   length-is : length text ≡ 16
   length-is = (read_length text n e).0
 
@@ -144,13 +143,13 @@ module _ (text : List ℕ) (n : ℕ) (e : bits_in text ≡ Bits n) where
 -- ---- floats
 
 -- a float is read back, a NaN as the NaN
-pub read-written-float : (x : Float) → T (fits binary64 x) → float_in (float_text x) ≡ Float· x
+pub read-written-float : (x : Float) → T (fits binary64 x) → float_in (float_text x) ≡ Some x
 unfolding float_in float_text
 read-written-float x h =
-    rw (read-written (to_bits binary64 x) (to_bits-lt binary64 x h)) (ap Float· (of_bits-to_bits binary64 x h))
+    rw (read-written (to_bits binary64 x) (to_bits-lt binary64 x h)) (ap Some (of_bits-to_bits binary64 x h))
 
 -- a float that is read is written back, unless it is the NaN, which has many patterns
-pub written-read-float : (text : List ℕ) (n : ℕ) → bits_in text ≡ Bits n → T (not (is_nan (of_bits binary64 n))) → float_text (of_bits binary64 n) ≡ text
+pub written-read-float : (text : List ℕ) (n : ℕ) → bits_in text ≡ Some n → T (not (is_nan (of_bits binary64 n))) → float_text (of_bits binary64 n) ≡ text
 unfolding float_text
 written-read-float text n e k =
     rw (to_bits-of_bits binary64 n (read_fits text n e) k) (written_read text n e)

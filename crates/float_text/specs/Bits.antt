@@ -1,28 +1,21 @@
 -- 64 bits as text, and floats by their bits. Assumes nothing.
-use Rattle.std.specs.Prelude.{◌≡◌, Bool, cond, List, ℕ, ◌+◌, eqb, leb, length, Float}
+use Rattle.std.specs.Prelude.{◌≡◌, Bool, cond, List, ℕ, ◌+◌, eqb, leb, length, Float, Option, None, option_map}
 use Rattle.std.proofs.Math.Seq.{paste}
 use Rattle.std.specs.Float.Ieee.{of_bits, to_bits}
 use Rattle.std.specs.Float.{binary64}
 use Rattle.float_text.specs.Digits.{number_from, digits_of}
-use Rattle.float_text.specs.declared.Pattern.{Pattern}
-use Rattle.float_text.specs.declared.Pattern.TheVariants.{Bits, Unreadable}
-use Rattle.float_text.specs.declared.Value.{Value}
 
 -- the 64 bits that 16 hexadecimal digits stand for
-unfoldable pub bits_in : List ℕ → Pattern
-bits_in text = cond (eqb (length text) 16) (number_from 16 0 text) Unreadable
+unfoldable pub bits_in : List ℕ → Option ℕ
+bits_in text = cond (eqb (length text) 16) (number_from 16 0 text) None
 
 -- 64 bits as 16 hexadecimal digits
 unfoldable pub bits_text : ℕ → List ℕ
 bits_text bits = digits_of 16 16 bits
 
--- the float of a pattern
-abbrev pub value_of : Pattern → Value
-value_of (Bits bits) = Value.Float (of_bits binary64 bits)
-value_of Unreadable = Value.NoFloat
-
-unfoldable pub float_in : List ℕ → Value
-float_in text = value_of (bits_in text)
+-- the float that they stand for
+unfoldable pub float_in : List ℕ → Option Float
+float_in text = option_map (of_bits binary64) (bits_in text)
 
 unfoldable pub float_text : Float → List ℕ
 float_text x = bits_text (to_bits binary64 x)

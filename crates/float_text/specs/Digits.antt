@@ -1,7 +1,5 @@
 -- Digits as text, to a base of at most 16: 0 to 9, then a to f. Assumes nothing.
-use Rattle.std.specs.Prelude.{cond, List, [], ◌∷◌, ℕ, zero, suc, ◌+◌, ◌*◌, ◌-◌, ◌/◌, ◌%◌, ◌^◌, ltb}
-use Rattle.float_text.specs.declared.Pattern.{Pattern}
-use Rattle.float_text.specs.declared.Pattern.TheVariants.{Bits, Unreadable}
+use Rattle.std.specs.Prelude.{cond, List, [], ◌∷◌, ℕ, zero, suc, ◌+◌, ◌*◌, ◌-◌, ◌/◌, ◌%◌, ◌^◌, ltb, Option, Some, None}
 
 -- the value of a digit, 0 to 9 and a to f; 16 of any other byte
 unfoldable pub digit_of : ℕ → ℕ
@@ -12,9 +10,9 @@ unfoldable pub letter_of : ℕ → ℕ
 letter_of d = cond (ltb d 10) (48 + d) (87 + d)
 
 -- the number that digits stand for, the highest first, after a number that has been read
-unfoldable pub number_from : ℕ → ℕ → List ℕ → Pattern
-number_from base n [] = Bits n
-number_from base n (b ∷ bs) = cond (ltb (digit_of b) base) (number_from base (n * base + digit_of b) bs) Unreadable
+unfoldable pub number_from : ℕ → ℕ → List ℕ → Option ℕ
+number_from base n [] = Some n
+number_from base n (b ∷ bs) = cond (ltb (digit_of b) base) (number_from base (n * base + digit_of b) bs) None
 
 -- the lowest k digits of n, the highest first
 unfoldable pub digits_of : ℕ → ℕ → ℕ → List ℕ

@@ -9,20 +9,6 @@ ghost use Rattle.std.specs.Float.Ieee.{of_bits, to_bits};
 ghost use Rattle.float_text.specs.Digits.{digit_of, letter_of, number_from, digits_of};
 ghost use Rattle.float_text.specs.Bits.{bits_in, bits_text, float_in, float_text, same_bits, Written};
 
-// The 64 bits that a text gives.
-#[derive(Clone, Copy)]
-pub enum Pattern {
-    Bits(u64),
-    Unreadable,
-}
-
-// The float that a text gives.
-#[derive(Clone, Copy)]
-pub enum Value {
-    Float(f64),
-    NoFloat,
-}
-
 // The value of a digit, 0 to 9 and a to f; 16 of any other byte.
 fn digit(b: u8) -> u64
     ensures { result ≡ digit_of b }
@@ -54,7 +40,7 @@ fn letter(d: u64) -> u8
 }
 
 // The number that digits to a base stand for.
-pub fn read_digits(text: &[u8], base: u64) -> Pattern
+pub fn read_digits(text: &[u8], base: u64) -> Option<u64>
     requires { base ^ length text.now ≤ 2 ^ 64 }
     ensures { result ≡ number_from base 0 text.now }
 {
@@ -63,33 +49,30 @@ pub fn read_digits(text: &[u8], base: u64) -> Pattern
     while i < text.len() {
         let d = digit(text[i]);
         if d >= base {
-            return Pattern::Unreadable;
+            return None;
         }
         n = n * base + d;
         i += 1;
     }
-    Pattern::Bits(n)
+    Some(n)
 }
 
 // The 64 bits of a text of 16 digits; any other text is unreadable.
-pub fn read_bits(text: &[u8]) -> Pattern
+pub fn read_bits(text: &[u8]) -> Option<u64>
     ensures { result ≡ bits_in text.now }
 {
     if text.len() != 16 {
-        return Pattern::Unreadable;
+        return None;
     }
     read_digits(text, 16)
 }
 
 // The float of a text of 16 digits.
-pub fn read_float(text: &[u8]) -> Value
+#[tactic(auto, unfolding(crate::specs::Bits::float_in))]
+pub fn read_float(text: &[u8]) -> Option<f64>
     ensures { result ≡ float_in text.now }
 {
-    let pattern = read_bits(text);
-    match pattern {
-        Pattern::Bits(bits) => Value::Float(float_of(bits)),
-        Pattern::Unreadable => Value::NoFloat,
-    }
+    read_bits(text).map(float_of)
 }
 
 // `count` digits of a number to a base, put into `out` from `at` on; `unit` is the weight of the highest.

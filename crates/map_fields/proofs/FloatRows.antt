@@ -15,10 +15,10 @@ use lib.Seq.{take_all, take-suc-set}
 use lib.Ieee.{Float}
 use borrow.Author.Tests.{eqb-true, eqb-false}
 use Rattle.float_text.specs.Digits.{number_from}
-use Rattle.float_text.specs.Bits.{bits_in, float_in, value_of}
-use Rattle.float_text.specs.declared.Pattern.TheVariants.{Unreadable}
-use Rattle.float_text.specs.declared.Value.{Value}
-use Rattle.float_text.specs.declared.Value.TheVariants as Value
+use Rattle.float_text.specs.Bits.{bits_in, float_in}
+use Rattle.std.specs.Prelude.{Some, None, Option as Maybe, option_map}
+use Rattle.std.specs.Float.Ieee.{of_bits}
+use Rattle.std.specs.Float.{binary64}
 use Rattle.map_fields.specs.Fields.{onto, fields, before, joined, floats_in, given, is_float, placed, lines, row_in, rest, RowRead}
 use Rattle.map_fields.proofs.Finding.{field_at, last-field-at, line_at}
 
@@ -39,19 +39,19 @@ Floating-start n line buf s = record { few = omega arith; size = s; within = ome
     go none = refl
     go (some ys) = refl
 
-size-placed : (v : Value) (k : ℕ) (buf : List Float) → length (placed v k buf) ≡ length buf
-size-placed (Value.Float x) k buf = length-set buf k (x)
-size-placed Value.NoFloat k buf = refl
+size-placed : (v : Maybe Float) (k : ℕ) (buf : List Float) → length (placed v k buf) ≡ length buf
+size-placed (Some x) k buf = length-set buf k (x)
+size-placed None k buf = refl
 
 -- one more float
-one_more : (v : Value) (k : ℕ) (buf : List Float) (o : Option (List Float)) → k < length buf → is_float v ≡ true → after (take k buf) (joined v o) ≡ after (take (k + 1) (placed v k buf)) o
-one_more (Value.Float x) k buf none l r = refl
-one_more (Value.Float x) k buf (some ys) l r = ap some (rw (add-one k, take-suc-set buf k (x) l, append_assoc))
-one_more Value.NoFloat k buf o l r = absurd (subst T (sym r) tt)
+one_more : (v : Maybe Float) (k : ℕ) (buf : List Float) (o : Option (List Float)) → k < length buf → is_float v ≡ true → after (take k buf) (joined v o) ≡ after (take (k + 1) (placed v k buf)) o
+one_more (Some x) k buf none l r = refl
+one_more (Some x) k buf (some ys) l r = ap some (rw (add-one k, take-suc-set buf k (x) l, append_assoc))
+one_more None k buf o l r = absurd (subst T (sym r) tt)
 
-unread : (v : Value) (xs : List Float) (o : Option (List Float)) → is_float v ≡ false → after xs (joined v o) ≡ none
-unread (Value.Float x) xs o r = absurd (subst T r tt)
-unread Value.NoFloat xs o r = refl
+unread : (v : Maybe Float) (xs : List Float) (o : Option (List Float)) → is_float v ≡ false → after xs (joined v o) ≡ none
+unread (Some x) xs o r = absurd (subst T r tt)
+unread None xs o r = refl
 
 pub none_left : (xs : List ℕ) → floats_in 0 (fields xs) ≡ none
 unfolding fields floats_in
@@ -63,7 +63,7 @@ none_left (x ∷ xs) = go (eqb x 44) (fields xs)
     go false [] = refl
     go false (p ∷ ps) = refl
 
-abbrev val : List ℕ → ℕ → ℕ → Value
+abbrev val : List ℕ → ℕ → ℕ → Maybe Float
 val line p e = float_in (take (e - p) (drop p line))
 
 module _ (n : ℕ) (line : List ℕ) (buf : List Float) (k p e : ℕ) (h : Floating n line buf k p) (l : k < n) (g : e ≡ p + length (before 44 (drop p line))) where
@@ -118,11 +118,11 @@ total-fields (x ∷ xs) = go (eqb x 44) (fields xs) (total-fields xs)
     go false [] e = omega arith
     go false (p ∷ ps) e = omega arith
 
-float-long : (p : List ℕ) (x : Float) → float_in p ≡ Value.Float x → length p ≡ 16
+float-long : (p : List ℕ) (x : Float) → float_in p ≡ Some x → length p ≡ 16
 unfolding float_in bits_in
 float-long p x e = go (eqb (length p) 16) refl e
   where
-    go : (t : Bool) → eqb (length p) 16 ≡ t → value_of (cond t (number_from 16 0 p) Unreadable) ≡ Value.Float x → length p ≡ 16
+    go : (t : Bool) → eqb (length p) 16 ≡ t → option_map (of_bits binary64) (cond t (number_from 16 0 p) None) ≡ Some x → length p ≡ 16
     go true q e = eqb-true (length p) 16 q
     go false q e = absurd (let z : ◌≡◌ {A = ℕ} 0 1 = cc in let y : ⊥ = omega arith in y)
 
@@ -133,10 +133,10 @@ floats-long zero (p ∷ ps) xs e = omega arith
 floats-long (suc n) [] xs e = absurd (let z : ◌≡◌ {A = ℕ} 0 1 = cc in let y : ⊥ = omega arith in y)
 floats-long (suc n) (p ∷ ps) xs e = go (float_in p) refl (floats_in n ps) refl e (λ ys f. floats-long n ps ys f)
   where
-    go : (v : Value) → float_in p ≡ v → (o : Option (List Float)) → floats_in n ps ≡ o → joined v o ≡ some xs → ((ys : List Float) → floats_in n ps ≡ some ys → 17 * n ≤ total ps) → 17 * suc n ≤ suc (length p) + total ps
-    go (Value.Float x) q (some ys) f e ih = omega (arith, float-long p x q, ih ys f)
-    go (Value.Float x) q none f e ih = absurd (let z : ◌≡◌ {A = ℕ} 0 1 = cc in let y : ⊥ = omega arith in y)
-    go Value.NoFloat q o f e ih = absurd (let z : ◌≡◌ {A = ℕ} 0 1 = cc in let y : ⊥ = omega arith in y)
+    go : (v : Maybe Float) → float_in p ≡ v → (o : Option (List Float)) → floats_in n ps ≡ o → joined v o ≡ some xs → ((ys : List Float) → floats_in n ps ≡ some ys → 17 * n ≤ total ps) → 17 * suc n ≤ suc (length p) + total ps
+    go (Some x) q (some ys) f e ih = omega (arith, float-long p x q, ih ys f)
+    go (Some x) q none f e ih = absurd (let z : ◌≡◌ {A = ℕ} 0 1 = cc in let y : ⊥ = omega arith in y)
+    go None q o f e ih = absurd (let z : ◌≡◌ {A = ℕ} 0 1 = cc in let y : ⊥ = omega arith in y)
 
 pub line-long : (n : ℕ) (line : List ℕ) (ok : Bool) (buf : List Float) → floats_in n (fields line) ≡ given ok buf → ok ≡ true → 17 * n ≤ length line + 1
 line-long n line ok buf e t = omega (arith, floats-long n (fields line) buf (e ∙ ap (λ (z : Bool). given z buf) t), total-fields line)
@@ -157,10 +157,10 @@ one-row text at n e ok buf l g w f = let z = line_at text at e l g in record {
 
 -- ---- one field
 
-pub field-read : (text : List ℕ) (v : Value) (x : Float) (k : ℕ) (buffer : List Float) → v ≡ float_in text → v ≡ Value.Float x
+pub field-read : (text : List ℕ) (v : Maybe Float) (x : Float) (k : ℕ) (buffer : List Float) → v ≡ float_in text → v ≡ Some x
     → (true ≡ is_float (float_in text)) × (set buffer k x ≡ placed (float_in text) k buffer)
-field-read text v x k buffer e q = let z : float_in text ≡ Value.Float x = sym e ∙ q in (rw z, rw z)
+field-read text v x k buffer e q = let z : float_in text ≡ Some x = sym e ∙ q in (rw z, rw z)
 
-pub field-unread : (text : List ℕ) (v : Value) (k : ℕ) (buffer : List Float) → v ≡ float_in text → v ≡ Value.NoFloat
+pub field-unread : (text : List ℕ) (v : Maybe Float) (k : ℕ) (buffer : List Float) → v ≡ float_in text → v ≡ None
     → (false ≡ is_float (float_in text)) × (buffer ≡ placed (float_in text) k buffer)
-field-unread text v k buffer e q = let z : float_in text ≡ Value.NoFloat = sym e ∙ q in (rw z, rw z)
+field-unread text v k buffer e q = let z : float_in text ≡ None = sym e ∙ q in (rw z, rw z)

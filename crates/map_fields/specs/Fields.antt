@@ -1,9 +1,8 @@
 -- Text as lines, a line as fields, a line of floats; texts are lists of bytes. Assumes nothing.
-use Rattle.std.specs.Prelude.{◌≡◌, Bool, true, false, cond, List, [], ◌∷◌, ℕ, zero, suc, ◌+◌, ◌*◌, ◌≤◌, eqb, length, set, drop, Float}
+use Rattle.std.specs.Prelude.{◌≡◌, Bool, true, false, cond, List, [], ◌∷◌, ℕ, zero, suc, ◌+◌, ◌*◌, ◌≤◌, eqb, length, set, drop, Float, Some, None}
+use Rattle.std.specs.Prelude.{Option as Maybe}
 use Rattle.std.proofs.Math.Option.{Option, none, some}
 use Rattle.float_text.specs.Bits.{float_in}
-use Rattle.float_text.specs.declared.Value.{Value}
-use Rattle.float_text.specs.declared.Value.TheVariants as Value
 
 -- a byte in front of the first part
 abbrev pub onto : ℕ → List (List ℕ) → List (List ℕ)
@@ -28,10 +27,10 @@ before b (x ∷ xs) = cond (eqb x b) [] (x ∷ before b xs)
 -- ---- a line of floats
 
 -- a float in front of floats, where both could be read
-abbrev pub joined : Value → Option (List Float) → Option (List Float)
-joined Value.NoFloat xs = none
-joined (Value.Float x) none = none
-joined (Value.Float x) (some xs) = some (x ∷ xs)
+abbrev pub joined : Maybe Float → Option (List Float) → Option (List Float)
+joined None xs = none
+joined (Some x) none = none
+joined (Some x) (some xs) = some (x ∷ xs)
 
 -- exactly n fields, each a float of 16 lower-case hexadecimal digits
 unfoldable pub floats_in : ℕ → List (List ℕ) → Option (List Float)
@@ -58,13 +57,13 @@ given true xs = some xs
 given false xs = none
 
 -- whether a field is a float, and the buffer with it put at its place
-abbrev pub is_float : Value → Bool
-is_float (Value.Float x) = true
-is_float Value.NoFloat = false
+abbrev pub is_float : Maybe Float → Bool
+is_float (Some x) = true
+is_float None = false
 
-abbrev pub placed : Value → ℕ → List Float → List Float
-placed (Value.Float x) k xs = set xs k x
-placed Value.NoFloat k xs = xs
+abbrev pub placed : Maybe Float → ℕ → List Float → List Float
+placed (Some x) k xs = set xs k x
+placed None k xs = xs
 
 -- the next line, from `at` on, was read into a buffer of n floats; the line after it begins at `next`
 pub record RowRead (text : List ℕ) (at n : ℕ) (ok : Bool) (next : ℕ) (buffer : List Float) : Type 0 where

@@ -1,24 +1,23 @@
 -- Line 1 of the map program's input: the kind of grid, the flag, the axis count and as many lengths. Assumes nothing.
-use Rattle.std.specs.Prelude.{◌≡◌, Bool, true, false, cond, ◌&&◌, ◌||◌, List, [], ◌∷◌, ℕ, ◌<◌, ◌≤◌, eqb, ltb, length, take, get_or}
+use Rattle.std.specs.Prelude.{◌≡◌, Bool, true, false, cond, ◌&&◌, ◌||◌, List, [], ◌∷◌, ℕ, ◌<◌, ◌≤◌, eqb, ltb, length, take, get_or, Some, None}
+use Rattle.std.specs.Prelude.{Option as Maybe}
 use Rattle.std.proofs.Math.Option.{Option, none, some}
 use Rattle.std.proofs.lemmas.List.Edits.{sets}
 use Rattle.float_text.specs.Digits.{number_from}
-use Rattle.float_text.specs.declared.Pattern.{Pattern}
-use Rattle.float_text.specs.declared.Pattern.TheVariants.{Bits, Unreadable}
 
 -- ---- decimals
 
 -- 1 to 8 decimal digits; zeros may lead
-unfoldable pub decimal_in : List ℕ → Pattern
-decimal_in text = cond (eqb (length text) 0) Unreadable (cond (ltb 8 (length text)) Unreadable (number_from 10 0 text))
+unfoldable pub decimal_in : List ℕ → Maybe ℕ
+decimal_in text = cond (eqb (length text) 0) None (cond (ltb 8 (length text)) None (number_from 10 0 text))
 
-abbrev pub is_decimal : Pattern → Bool
-is_decimal (Bits n) = true
-is_decimal Unreadable = false
+abbrev pub is_decimal : Maybe ℕ → Bool
+is_decimal (Some n) = true
+is_decimal None = false
 
-abbrev pub or_zero : Pattern → ℕ
-or_zero (Bits n) = n
-or_zero Unreadable = 0
+abbrev pub or_zero : Maybe ℕ → ℕ
+or_zero (Some n) = n
+or_zero None = 0
 
 unfoldable pub are_decimals : List (List ℕ) → Bool
 are_decimals [] = true

@@ -4,22 +4,21 @@ ghost use Rattle.map_fields.specs.Fields.{fields};
 ghost use Rattle.map_fields.specs.Head.{decimal_in, is_decimal, or_zero, is_byte, four_of, Counted, LengthsRead, HeadRead};
 
 use crate::rows::find;
-use float_text::Pattern;
 
 // The number of a text of 1 to 8 decimal digits.
-fn decimal(text: &[u8]) -> Pattern
+fn decimal(text: &[u8]) -> Option<u64>
     ensures { result ≡ decimal_in text.now }
 {
     if text.len() == 0 {
-        return Pattern::Unreadable;
+        return None;
     }
     if text.len() > 8 {
-        return Pattern::Unreadable;
+        return None;
     }
     float_text::read_digits(text, 10)
 }
 
-fn decimal_at(line: &[u8], p: usize, e: usize) -> Pattern
+fn decimal_at(line: &[u8], p: usize, e: usize) -> Option<u64>
     requires { (p ≤ e) × (e ≤ length line.now) }
     ensures { result ≡ decimal_in (take (e - p) (drop p line.now)) }
 {
@@ -42,11 +41,11 @@ fn keep(line: &[u8], p: usize, e: usize, numbers: &mut [usize], k: usize) -> boo
 {
     let v = decimal_at(line, p, e);
     match v {
-        Pattern::Bits(n) => {
+        Some(n) => {
             store(numbers, k, n as usize);
             true
         }
-        Pattern::Unreadable => {
+        None => {
             store(numbers, k, 0);
             false
         }

@@ -3,8 +3,6 @@ ghost use Rattle.std.specs.Prelude.{◌≡◌, ◌<◌, ◌≤◌, ◌+◌, ◌-
 ghost use Rattle.float_text.specs.Bits.{float_in};
 ghost use Rattle.map_fields.specs.Fields.{before, fields, floats_in, given, is_float, placed, RowRead};
 
-use float_text::Value;
-
 // The first place of b from a place on, or the length.
 pub fn find(s: &[u8], from: usize, b: u8) -> usize
     requires { from ≤ length s.now }
@@ -20,7 +18,7 @@ pub fn find(s: &[u8], from: usize, b: u8) -> usize
     i
 }
 
-fn float_at(line: &[u8], p: usize, e: usize) -> Value
+fn float_at(line: &[u8], p: usize, e: usize) -> Option<f64>
     requires { (p ≤ e) × (e ≤ length line.now) }
     ensures { result ≡ float_in (take (e - p) (drop p line.now)) }
 {
@@ -35,11 +33,11 @@ fn put_float(line: &[u8], p: usize, e: usize, buffer: &mut [f64], k: usize) -> b
 {
     let v = float_at(line, p, e);
     match v {
-        Value::Float(x) => {
+        Some(x) => {
             buffer[k] = x;
             true
         }
-        Value::NoFloat => false,
+        None => false,
     }
 }
 

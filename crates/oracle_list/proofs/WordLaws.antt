@@ -7,21 +7,20 @@ use native.Mathlib.Omega.{arith}
 use lib.ListN.{length, take, drop, get_or}
 use borrow.Author.Tests.{not-true, not-false, lt-ltb, le-ltb}
 use Rattle.float_text.specs.Bits.{bits_in}
-use Rattle.float_text.specs.declared.Pattern.{Pattern}
-use Rattle.float_text.specs.declared.Pattern.TheVariants.{Unreadable}
+use Rattle.std.specs.Prelude.{Option, None}
 use Rattle.oracle_list.specs.Words.{is_gap, word_at}
 
 module _ (text : List ℕ) (i : ℕ) where
-  pub Word-past : length text / 17 ≤ i → Unreadable ≡ word_at text i
+  pub Word-past : length text / 17 ≤ i → None ≡ word_at text i
   unfolding word_at
   Word-past l = rw (le-ltb _ _ l)
 
   module _ (l : i < length text / 17) (r : Bool) (g : r ≡ is_gap (get_or text (i * 17 + 16) 0)) where
-    pub Word-no-gap : not r ≡ true → Unreadable ≡ word_at text i
+    pub Word-no-gap : not r ≡ true → None ≡ word_at text i
     unfolding word_at
     Word-no-gap n = rw (lt-ltb _ _ l, ← g, not-true r n)
 
-    pub Word-read : not r ≡ false → (p : Pattern) → p ≡ bits_in (take (i * 17 + 16 - i * 17) (drop (i * 17) text)) → p ≡ word_at text i
+    pub Word-read : not r ≡ false → (p : Option ℕ) → p ≡ bits_in (take (i * 17 + 16 - i * 17) (drop (i * 17) text)) → p ≡ word_at text i
     unfolding word_at
     Word-read n p e =
         let k : i * 17 + 16 - i * 17 ≡ 16 = omega arith in

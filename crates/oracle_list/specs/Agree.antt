@@ -1,13 +1,11 @@
 -- Bytes and cells of buffers, as the words of a record expect them. Assumes nothing.
-use Rattle.std.specs.Prelude.{◌≡◌, Bool, true, List, ℕ, ◌+◌, ◌*◌, ◌<◌, length, get_or, Float}
+use Rattle.std.specs.Prelude.{◌≡◌, Bool, true, List, ℕ, ◌+◌, ◌*◌, ◌<◌, length, get_or, Float, Some}
 use Rattle.std.specs.Float.{nan, binary64}
 use Rattle.std.specs.Float.Ieee.{of_bits}
 use Rattle.float_text.specs.Bits.{same_bits}
-use Rattle.float_text.specs.declared.Pattern.TheVariants.{Bits}
 use Rattle.oracle_list.specs.Cells.{is_near}
 use Rattle.oracle_list.specs.Words.{word_at, number_at, IsNumber}
 use Rattle.oracle_list.specs.declared.cells.Test.{Test}
-use Rattle.oracle_list.specs.declared.cells.Test.TheVariants as Test
 
 -- byte i is word `first + i * step`, and so is every byte
 abbrev pub ByteAgrees : List ℕ → ℕ → ℕ → List ℕ → ℕ → Type 0
@@ -28,7 +26,7 @@ test_of (Test.Near tolerance) = is_near tolerance
 -- cell x passes a test with the float of word i
 pub record CellAgrees (test : Float → Float → Bool) (text : List ℕ) (i : ℕ) (x : Float) : Type 0 where
   pub bits : ℕ
-  pub read : word_at text i ≡ Bits bits
+  pub read : word_at text i ≡ Some bits
   pub passes : test x (of_bits binary64 bits) ≡ true
 
 -- cell i of a list does, with word `first + i`, and so does every cell

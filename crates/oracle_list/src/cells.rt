@@ -5,7 +5,6 @@ ghost use Rattle.oracle_list.specs.Agree.{test_of, float_at, CellAgrees, CellsAg
 ghost use Rattle.oracle_list.specs.Cells.{counted, same_cells, is_near};
 
 use crate::words::{number_at, word};
-use float_text::Pattern;
 
 // Cell i is set to `first` plus i steps.
 pub fn fill(first: f64, step: f64, cells: &mut [f64])
@@ -86,8 +85,8 @@ pub fn cell_agrees(test: Test, text: &[u8], i: usize, x: f64) -> bool
 {
     let pattern = word(text, i);
     match pattern {
-        Pattern::Bits(bits) => passes(test, x, float_text::float_of(bits)),
-        Pattern::Unreadable => false,
+        Some(bits) => passes(test, x, float_text::float_of(bits)),
+        None => false,
     }
 }
 

@@ -2,8 +2,6 @@
 ghost use Rattle.std.specs.Prelude.{◌≡◌, true, ℕ, ◌+◌, ◌*◌, ◌<◌, ◌≤◌, length, get_or};
 ghost use Rattle.oracle_list.specs.Words.{is_gap, word_at, number_at, IsNumber};
 
-use float_text::Pattern;
-
 // Whether a byte may stand after a word.
 fn is_gap(b: u8) -> bool
     ensures { result ≡ is_gap b }
@@ -15,16 +13,16 @@ fn is_gap(b: u8) -> bool
 }
 
 // Word i.
-pub fn word(text: &[u8], i: usize) -> Pattern
+pub fn word(text: &[u8], i: usize) -> Option<u64>
     ensures { result ≡ word_at text.now i }
 {
     if text.len() / 17 <= i {
-        return Pattern::Unreadable;
+        return None;
     }
     let at = i * 17;
     let end = at + 16;
     if !is_gap(text[end]) {
-        return Pattern::Unreadable;
+        return None;
     }
     float_text::read_bits(&text[at..end])
 }
@@ -35,8 +33,8 @@ pub fn number_at(text: &[u8], i: usize) -> u64
 {
     let pattern = word(text, i);
     match pattern {
-        Pattern::Bits(bits) => bits,
-        Pattern::Unreadable => 0,
+        Some(bits) => bits,
+        None => 0,
     }
 }
 
@@ -53,8 +51,8 @@ pub fn is_number(text: &[u8], i: usize, n: u64) -> bool
 {
     let pattern = word(text, i);
     match pattern {
-        Pattern::Bits(bits) => bits == n,
-        Pattern::Unreadable => false,
+        Some(bits) => bits == n,
+        None => false,
     }
 }
 
@@ -62,8 +60,8 @@ pub fn is_number(text: &[u8], i: usize, n: u64) -> bool
 fn is_word(text: &[u8], i: usize) -> bool {
     let pattern = word(text, i);
     match pattern {
-        Pattern::Bits(_) => true,
-        Pattern::Unreadable => false,
+        Some(_) => true,
+        None => false,
     }
 }
 

@@ -1,5 +1,4 @@
 use native.Mathlib.Omega.{arith}
-use Rattle.oracle_list.specs.Agree.{float_at}
 use Rattle.oracle_list.proofs.Turns.{Setting-start, Setting-step, Setting-done}
 use Rattle.oracle_list.proofs.cells.read_cells.Goals as goal
 
