@@ -8,10 +8,15 @@ use lib.Dec.{eqb}
 use lib.ListN.{length, take, drop, length-drop}
 use lib.Seq.{get_or-take, take-take}
 use lib.Ieee.{Float, binary64}
-use borrow.Author.Tests.{eq-eqb}
+use borrow.Author.Tests.{eq-eqb, ne_eqb}
+use Rattle.std.specs.Prelude.{Result}
+use Rattle.shape.specs.Refusal.{refusal_number, answer_number}
+use Rattle.shape.specs.declared.answers.Answer.{Answer}
+use Rattle.shape.specs.declared.answers.Refusal.{Refusal}
 use Rattle.shape.specs.Checks.{first_refusal, shape_checks, regular_fit_checks}
 use Rattle.shape.specs.Fit.{Fitted, FitLeaves}
-use Rattle.shape.proofs.Accepted.{usable-accepted, axes-are, storage-is, scratch-is}
+use Rattle.shape.specs.declared.answers.Answer.TheVariants.{Accepted, Refused}
+use Rattle.shape.proofs.Accepted.{usable-accepted, axes-are, storage-is, scratch-is, refusal-suc}
 use Rattle.knots.specs.Joined.{total, all_rise}
 use Rattle.evaluation.specs.Axes.{in_use, query}
 use Rattle.evaluation.specs.Built.{BuiltFrom}
@@ -26,12 +31,10 @@ use Rattle.rectilinear.specs.Fit.{rectilinear_fit, rectilinear_fit_checks}
 use Rattle.rectilinear.proofs.FitChecks as RectilinearFit
 use Rattle.rectilinear_map.specs.Map as Rectilinear
 use Rattle.rectilinear_blocks.specs.Map.{RectilinearMap}
-use Rattle.regular_map.specs.Records as RegularRecord
-use Rattle.rectilinear_map.specs.Records as RectilinearRecord
 use Rattle.map_fields.specs.Records.{head_of}
 use Rattle.map_fields.specs.declared.head.FirstLine.{FirstLine}
 use Rattle.map_spline.specs.declared.build.Map.{Map}
-use Rattle.map_spline.specs.Surface.{Surface, regular_surface, rectilinear_surface, regular_of, rectilinear_of, regular_refused, rectilinear_refused, regular_number, rectilinear_number, row_length, map_number, surface, refused_surface, surface_of, Lent, MadeFrom, RegularMade, RectilinearMade, Makes}
+use Rattle.map_spline.specs.Surface.{Surface, regular_surface, rectilinear_surface, regular_of, rectilinear_of, regular_refused, rectilinear_refused, regular_number, rectilinear_number, row_length, map_number, surface, refused_surface, made_number, made_surface, Lent, MadeFrom, RegularMade, RectilinearMade, Makes}
 use Rattle.map_spline.proofs.Axes.{in_use_lem, query-in-use, query-take}
 
 -- what is made of the one or the other
@@ -130,6 +133,11 @@ module _ (linear : Bool) (count : ℕ) (lens : List ℕ) (row samples coefs scra
 
 -- ---- either grid
 
+-- the room that the workspace has
+pub lent-room : {count : ℕ} {lens : List ℕ} {wanted row samples coefs room room' : ℕ} → room ≡ room' → Lent count lens wanted row samples coefs room
+    → Lent count lens wanted row samples coefs room'
+lent-room e l = record { shape = l.shape; four = l.four; row_is = l.row_is; samples-are = l.samples-are; coefs-are = l.coefs-are; scratch-room = rw (← e) l.scratch-room }
+
 lent_at : {count : ℕ} {lens : List ℕ} {wanted wanted' row samples coefs scratch : ℕ} → wanted ≡ wanted' → Lent count lens wanted row samples coefs scratch
     → Lent count lens wanted' row samples coefs scratch
 lent_at e l = record { shape = l.shape; four = l.four; row_is = l.row_is ∙ e; samples-are = l.samples-are; coefs-are = l.coefs-are; scratch-room = l.scratch-room }
@@ -143,21 +151,30 @@ module _ (line : FirstLine) (row samples coefs : ℕ) (l : Lent line.count line.
   unfolding row_length
   lent-rectilinear t = lent_at (rw t) l
 
-module _ (line : FirstLine) (row samples coefs coefs' : List Float) (number : ℕ) (m : Map) where
-  pub makes-regular : line.regular ≡ true → m.regular ≡ true → RegularMade (head_of line) row samples number (regular_surface binary64 (RegularRecord.map_of m.even) coefs')
-      → Makes (head_of line) row samples coefs number (surface_of m row coefs')
+module _ (line : FirstLine) (row samples coefs coefs' : List Float) (r : Result Map Refusal) where
+  pub makes-regular : line.regular ≡ true → RegularMade (head_of line) row samples (made_number r) (made_surface true r row coefs')
+      → Makes (head_of line) row samples coefs (made_number r) (made_surface line.regular r row coefs')
   unfolding map_number surface refused_surface
-  makes-regular t u h = rw (t, u) h
+  makes-regular t h = rw t h
 
-  pub makes-rectilinear : line.regular ≡ false → m.regular ≡ false → RectilinearMade (head_of line) row samples coefs number (rectilinear_surface binary64 (RectilinearRecord.map_of m.uneven) row coefs')
-      → Makes (head_of line) row samples coefs number (surface_of m row coefs')
+  pub makes-rectilinear : line.regular ≡ false → RectilinearMade (head_of line) row samples coefs (made_number r) (made_surface false r row coefs')
+      → Makes (head_of line) row samples coefs (made_number r) (made_surface line.regular r row coefs')
   unfolding map_number surface refused_surface
-  makes-rectilinear t u h = rw (t, u) h
+  makes-rectilinear t h = rw t h
 
--- the number that is handed on is the answer's
-pub made_at : {expected : ℕ} {made refused : Surface} {number number' : ℕ} {s : Surface} → number' ≡ number → MadeFrom expected made refused number s → MadeFrom expected made refused number' s
-made_at n h = record { answers = n ∙ h.answers; map = rw n h.map }
+-- what a call answered, and the map that it handed on: a blank one where it is refused
+module _ {M : Type 0} {expected : ℕ} {made blank : M} {answer : Answer} {handed : M} (b : BuiltFrom expected made blank (answer_number answer) handed)
+    {number : ℕ} {s refused : Surface} (surface_from : M → Surface) (h : MadeFrom number s refused (answer_number answer) (surface_from handed)) where
+  pub made-accepted : answer ≡ Accepted → MadeFrom number s refused 0 (surface_from handed)
+  made-accepted told = let z : ◌≡◌ {A = ℕ} 0 (answer_number answer) = sym (ap answer_number told) in record { answers = z ∙ h.answers; map = h.map ∙ ap (λ (n : ℕ). cond (eqb n 0) s refused) (sym z) }
+
+  pub made-refused : (refusal : Refusal) → answer ≡ Refused refusal → MadeFrom number s refused (refusal_number refusal) (surface_from blank)
+  made-refused refusal told =
+      let z : refusal_number refusal ≡ answer_number answer = sym (ap answer_number told) in
+      let above = refusal-suc refusal in
+      let none : handed ≡ blank = b.map ∙ ap (λ (t : Bool). cond t made blank) (ne_eqb expected 0 (λ e. omega (arith, z, b.answers, above, e))) in
+      record { answers = z ∙ h.answers; map = ap surface_from (sym none) ∙ h.map ∙ ap (λ (n : ℕ). cond (eqb n 0) s refused) (sym z) }
 
 -- a map that is not refused
-pub made-is : {expected : ℕ} {made refused : Surface} {number : ℕ} {s : Surface} → MadeFrom expected made refused number s → number ≡ 0 → s ≡ made
-made-is {made = made} {refused = refused} h z = h.map ∙ ap (λ (t : Bool). cond t made refused) (eq-eqb _ 0 z)
+pub made-is : {expected : ℕ} {made refused : Surface} {s : Surface} → MadeFrom expected made refused 0 s → s ≡ made
+made-is h = h.map
