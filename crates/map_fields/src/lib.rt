@@ -7,4 +7,4 @@ mod rows;
 
 pub use head::{FirstLine, read_head};
 pub use parts::Lines;
-pub use rows::read_row;
+pub use rows::{read_floats, read_row};

@@ -5,7 +5,7 @@ ghost use Rattle.map_fields.specs.Fields.{fields, floats_in, row_in, rest, given
 use crate::parts::{Fields, Lines};
 
 // The floats of a line, as many as the buffer holds: `Some` where there are just so many, each well formed.
-fn floats(line: &[u8], buffer: &mut [f64]) -> Option<()>
+pub fn read_floats(line: &[u8], buffer: &mut [f64]) -> Option<()>
     ensures { floats_in (length buffer.old) (fields line.now) ≡ given result buffer.new }
 {
     let mut fields = Fields::new(line);
@@ -24,5 +24,5 @@ pub fn read_row(lines: &mut Lines<'_>, buffer: &mut [f64]) -> Option<()>
     ensures after { lines.new ≡ rest lines.old }
 {
     let line = lines.next()?;
-    floats(line, buffer)
+    read_floats(line, buffer)
 }

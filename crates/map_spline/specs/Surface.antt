@@ -24,6 +24,7 @@ use Rattle.shape.specs.Refusal.{refusal_number}
 use Rattle.shape.specs.declared.answers.Refusal.{Refusal}
 use Rattle.map_spline.specs.declared.build.Map.{Map}
 use Rattle.map_spline.specs.declared.replies.Reply.{Reply}
+use Rattle.map_spline.specs.declared.replies.FittedMap.{FittedMap}
 
 -- a map as its queries see it
 pub record Surface : Type 0 where
@@ -97,6 +98,9 @@ asked_outside s x = eqb (asked_number s x) 0 && s.outside x
 abbrev pub surface_of : Map → List Float → List Float → Surface
 surface_of (Map.Regular m) row coefs = regular_surface binary64 (RegularRecord.map_of m) coefs
 surface_of (Map.Rectilinear m) row coefs = rectilinear_surface binary64 (RectilinearRecord.map_of m) row coefs
+
+abbrev pub surface_in : FittedMap → Surface
+surface_in m = surface_of m.map m.row.now m.coeffs.now
 
 -- a call that makes a map: its number, and its map, which is blank where the call is refused
 abbrev pub made_number : Result Map Refusal → ℕ

@@ -6,4 +6,4 @@ mod outside;
 mod replies;
 
 pub use build::{Map, make};
-pub use replies::{Reply, ask};
+pub use replies::{FittedMap, Reply};

@@ -2,7 +2,7 @@
 ghost use Rattle.std.specs.Float.{binary64};
 ghost use Rattle.regular_map.specs.Records as Regular;
 ghost use Rattle.rectilinear_map.specs.Records as Rectilinear;
-ghost use Rattle.map_spline.specs.Surface.{regular_surface, rectilinear_surface, surface_of, Replied};
+ghost use Rattle.map_spline.specs.Surface.{regular_surface, rectilinear_surface, surface_in, Replied};
 
 use crate::build::Map;
 use crate::outside::{rectilinear_outside, regular_outside};
@@ -62,12 +62,22 @@ fn ask_rectilinear(
     }
 }
 
-// A query of a map on either grid.
-pub fn ask(map: Map, grid: &[f64], coeffs: &[f64], x: &[f64]) -> Result<Reply, Refusal>
-    ensures { Replied (surface_of map grid.now coeffs.now) x.now result }
-{
-    match map {
-        Map::Regular(map) => ask_regular(map, coeffs, x),
-        Map::Rectilinear(map) => ask_rectilinear(map, grid, coeffs, x),
+// A map, with what its queries read: its row, which is the grid of a rectilinear map, and its coefficients.
+#[derive(Clone, Copy)]
+pub struct FittedMap<'a> {
+    pub map: Map,
+    pub row: &'a [f64],
+    pub coeffs: &'a [f64],
+}
+
+impl<'a> FittedMap<'a> {
+    // A query of a map on either grid.
+    pub fn ask(&self, x: &[f64]) -> Result<Reply, Refusal>
+        ensures { Replied (surface_in self.now) x.now result }
+    {
+        match self.map {
+            Map::Regular(map) => ask_regular(map, self.coeffs, x),
+            Map::Rectilinear(map) => ask_rectilinear(map, self.row, self.coeffs, x),
+        }
     }
 }

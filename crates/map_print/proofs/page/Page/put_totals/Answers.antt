@@ -7,7 +7,7 @@ pub push-requires : goal.push-requires
 push-requires c = omega (arith, c.requires.0, grown c.put_head.ensures, grown c.put_count.ensures, length-count_text c.args.queries)
 
 pub put_count-requires-2 : goal.put_count-requires-2
-put_count-requires-2 c = (omega (arith, c.requires.0, grown c.put_head.ensures, grown c.put_count.ensures, grown c.push.ensures, length-count_text c.args.queries), c.requires.2)
+put_count-requires-2 c = (omega (arith, c.requires.0, grown c.put_head.ensures, grown c.put_count.ensures, grown c.push.ensures, length-count_text c.args.queries), omega (arith, c.requires))
 
 pub push-requires-2 : goal.push-requires-2
 push-requires-2 c =

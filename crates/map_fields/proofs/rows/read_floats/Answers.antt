@@ -3,7 +3,7 @@ use Prim.Native.Nat.{ℕ}
 use mathlib.Core.List.{List}
 use Rattle.map_fields.specs.Fields.{floats_in}
 use Rattle.map_fields.proofs.FloatRows.{Floating-short, Floating-bad, Floating-step, Floating-over, Floating-done}
-use Rattle.map_fields.proofs.rows.floats.Goals as goal
+use Rattle.map_fields.proofs.rows.read_floats.Goals as goal
 
 -- what is known of the fields of the line, by the iterator over them
 from {ℓ} : {X : Type ℓ} {n : ℕ} {ps qs : List (List ℕ)} {o : X} (f : ℕ → List (List ℕ) → X) → ps ≡ qs → f n ps ≡ o → f n qs ≡ o
