@@ -8,7 +8,7 @@ ghost use Rattle.map_spline.specs.Surface.{row_length, made_number, made_surface
 use map_fields::FirstLine;
 use rectilinear_map::MultiBsplineRectilinear;
 use regular_map::MultiBsplineRegular;
-use shape::{Answer, Refusal, Shape};
+use shape::{Refusal, Shape};
 
 // A map on either grid.
 #[derive(Clone, Copy)]
@@ -54,7 +54,7 @@ fn make_regular(
     let dims = line.dims;
     let starts = starts_of(row, count);
     let steps = steps_of(row, count);
-    let built = MultiBsplineRegular::from_values_with_workspace(
+    let map = MultiBsplineRegular::from_values_with_workspace(
         Shape { count, dims },
         starts,
         steps,
@@ -62,11 +62,8 @@ fn make_regular(
         coeffs,
         &mut scratch,
         line.linear,
-    );
-    match built.answer {
-        Answer::Accepted => Ok(Map::Regular(built.map)),
-        Answer::Refused(refusal) => Err(refusal),
-    }
+    )?;
+    Ok(Map::Regular(map))
 }
 
 fn make_rectilinear(
@@ -81,18 +78,15 @@ fn make_rectilinear(
     let mut scratch = workspace();
     let count = line.count;
     let dims = line.dims;
-    let built = MultiBsplineRectilinear::from_values_with_workspace(
+    let map = MultiBsplineRectilinear::from_values_with_workspace(
         Shape { count, dims },
         row,
         samples,
         coeffs,
         &mut scratch,
         line.linear,
-    );
-    match built.answer {
-        Answer::Accepted => Ok(Map::Rectilinear(built.map)),
-        Answer::Refused(refusal) => Err(refusal),
-    }
+    )?;
+    Ok(Map::Rectilinear(map))
 }
 
 // Fits the samples and builds the map; the buffers have the lengths that the shape wants.

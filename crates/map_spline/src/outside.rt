@@ -25,8 +25,8 @@ fn regular_axis(map: MultiBsplineRegular, axis: usize, x: f64) -> bool
     ensures { result ≡ is_outside_loc (Regular.loc_at binary64 map.dims map.starts map.steps axis x) }
 {
     match map.place(axis, x) {
-        regular_map::Placed::At(sat, _) => is_outside(sat),
-        regular_map::Placed::Refused(_) => false,
+        Ok((sat, _)) => is_outside(sat),
+        Err(_) => false,
     }
 }
 
@@ -48,8 +48,8 @@ fn rectilinear_axis(map: MultiBsplineRectilinear, grid: &[f64], axis: usize, x: 
     ensures { result ≡ is_outside (Rectilinear.loc_at map.count map.dims grid.now axis x).sat }
 {
     match map.place(grid, axis, x) {
-        rectilinear_map::Placed::At(loc) => is_outside(loc.sat),
-        rectilinear_map::Placed::Refused(_) => false,
+        Ok(loc) => is_outside(loc.sat),
+        Err(_) => false,
     }
 }
 

@@ -6,7 +6,6 @@ ghost use Rattle.map_spline.specs.Surface.{regular_surface, rectilinear_surface,
 
 use crate::build::Map;
 use crate::outside::{rectilinear_outside, regular_outside};
-use evaluation::Valued;
 use rectilinear_map::MultiBsplineRectilinear;
 use regular_map::MultiBsplineRegular;
 use shape::Refusal;
@@ -22,20 +21,14 @@ pub struct Reply {
 fn ask_regular(map: MultiBsplineRegular, coeffs: &[f64], x: &[f64]) -> Result<Reply, Refusal>
     ensures { Replied (regular_surface binary64 (Regular.map_of map) coeffs.now) x.now result }
 {
-    let valued = map.interp_one(coeffs, x);
-    match valued {
-        Valued::Value(value) => {
-            let gradient = map.interp_one_grad(coeffs, x);
-            let outside = regular_outside(map, x);
-            let parts = gradient.parts;
-            Ok(Reply {
-                value,
-                outside,
-                parts,
-            })
-        }
-        Valued::Refused(refusal) => Err(refusal),
-    }
+    let value = map.interp_one(coeffs, x)?;
+    let parts = map.interp_one_grad(coeffs, x)?;
+    let outside = regular_outside(map, x);
+    Ok(Reply {
+        value,
+        outside,
+        parts,
+    })
 }
 
 fn ask_rectilinear(
@@ -46,20 +39,14 @@ fn ask_rectilinear(
 ) -> Result<Reply, Refusal>
     ensures { Replied (rectilinear_surface binary64 (Rectilinear.map_of map) grid.now coeffs.now) x.now result }
 {
-    let valued = map.interp_one(grid, coeffs, x);
-    match valued {
-        Valued::Value(value) => {
-            let gradient = map.interp_one_grad(grid, coeffs, x);
-            let outside = rectilinear_outside(map, grid, x);
-            let parts = gradient.parts;
-            Ok(Reply {
-                value,
-                outside,
-                parts,
-            })
-        }
-        Valued::Refused(refusal) => Err(refusal),
-    }
+    let value = map.interp_one(grid, coeffs, x)?;
+    let parts = map.interp_one_grad(grid, coeffs, x)?;
+    let outside = rectilinear_outside(map, grid, x);
+    Ok(Reply {
+        value,
+        outside,
+        parts,
+    })
 }
 
 // A map, with what its queries read: its row, which is the grid of a rectilinear map, and its coefficients.

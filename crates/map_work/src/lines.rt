@@ -14,7 +14,7 @@ use crate::queries::run;
 use map_fields::{FirstLine, Lines};
 use map_print::Page;
 use map_spline::FittedMap;
-use shape::{Answer, Refusal, Shape};
+use shape::{Refusal, Shape};
 
 // The map, and the queries, in coefficients of its size.
 fn fitted_in(
@@ -131,10 +131,7 @@ fn check_shape(count: usize, dims: [usize; 4]) -> Result<(), Refusal>
     ensures dims_len { length dims ≡ 4 }
 {
     let shape = Shape { count, dims };
-    let answer = shape.check();
-    if let Answer::Refused(refusal) = answer {
-        return Err(refusal);
-    }
+    shape.check()?;
     if shape.coeff_storage_len() > 512 {
         return Err(Refusal::TooManyPoints);
     }

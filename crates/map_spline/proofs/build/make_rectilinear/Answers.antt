@@ -1,20 +1,14 @@
 use mathlib.Core.Path.{refl}
-use lib.Ieee.{binary64}
-use Rattle.rectilinear_blocks.specs.Map.{RectilinearMap}
-use Rattle.map_spline.specs.Surface.{rectilinear_surface}
-use Rattle.map_spline.proofs.Making.{rectilinear-made, made-accepted, made-refused, lent-room}
+use Rattle.shape.proofs.Exit.{err-is}
+use Rattle.map_spline.proofs.Making.{rectilinear-made, rectilinear-not, lent-room}
 use Rattle.map_spline.proofs.build.make_rectilinear.Goals as goal
 
-pub returns-in-Accepted : goal.returns-in-Accepted
-returns-in-Accepted c =
-    let built = c.from_values_with_workspace-built.ensures in
-    made-accepted built.built_by_fit (λ (m : RectilinearMap). rectilinear_surface binary64 m c.args.row.now c.from_values_with_workspace-built.new.coeffs)
-    (rectilinear-made _ _ _ _ _ _ _ _ (lent-room c.workspace-scratch.ensures c.requires) refl _ _ _ _ _ built.built_by_fit built.rectilinear_fitted)
-    c.in-Accepted.is
+pub returns-in_err-map : goal.returns-in_err-map
+returns-in_err-map c =
+    let built = c.from_values_with_workspace.ensures in
+    rw (err-is {e = c.in_err-map.field-0.0} c.from_residual.result c.from_residual.ensures.1) (rectilinear-not _ _ _ _ _ _ _ _ (lent-room c.workspace-scratch.ensures c.requires) refl _ _ _ _ _ built.built_by_fit built.rectilinear_fitted _ c.in_err-map.was)
 
-pub returns-in-Refused : goal.returns-in-Refused
-returns-in-Refused c =
-    let built = c.from_values_with_workspace-built.ensures in
-    made-refused built.built_by_fit (λ (m : RectilinearMap). rectilinear_surface binary64 m c.args.row.now c.from_values_with_workspace-built.new.coeffs)
-    (rectilinear-made _ _ _ _ _ _ _ _ (lent-room c.workspace-scratch.ensures c.requires) refl _ _ _ _ _ built.built_by_fit built.rectilinear_fitted)
-    _ c.in-Refused.is
+pub returns : goal.returns
+returns c =
+    let built = c.from_values_with_workspace.ensures in
+    rectilinear-made _ _ _ _ _ _ _ _ (lent-room c.workspace-scratch.ensures c.requires) refl _ _ _ _ _ built.built_by_fit built.rectilinear_fitted _ c.in_ok-map.was

@@ -1,20 +1,14 @@
 use mathlib.Core.Path.{refl}
-use lib.Ieee.{binary64}
-use Rattle.regular_blocks.specs.Map.{RegularMap}
-use Rattle.map_spline.specs.Surface.{regular_surface}
-use Rattle.map_spline.proofs.Making.{regular-made, made-accepted, made-refused, lent-room}
+use Rattle.shape.proofs.Exit.{err-is}
+use Rattle.map_spline.proofs.Making.{regular-made, regular-not, lent-room}
 use Rattle.map_spline.proofs.build.make_regular.Goals as goal
 
-pub returns-in-Accepted : goal.returns-in-Accepted
-returns-in-Accepted c =
-    let built = c.from_values_with_workspace-built.ensures in
-    made-accepted built.regular_built (λ (m : RegularMap). regular_surface binary64 m c.from_values_with_workspace-built.new.coeffs)
-    (regular-made _ _ _ _ _ _ _ _ (lent-room c.workspace-scratch.ensures c.requires) refl _ _ c.starts_of-starts.ensures c.steps_of-steps.ensures _ _ _ _ _ built.regular_built built.regular_fit_leaves)
-    c.in-Accepted.is
+pub returns-in_err-map : goal.returns-in_err-map
+returns-in_err-map c =
+    let built = c.from_values_with_workspace.ensures in
+    rw (err-is {e = c.in_err-map.field-0.0} c.from_residual.result c.from_residual.ensures.1) (regular-not _ _ _ _ _ _ _ _ (lent-room c.workspace-scratch.ensures c.requires) refl _ _ c.starts_of-starts.ensures c.steps_of-steps.ensures _ _ _ _ built.regular_built built.regular_fit_leaves _ c.in_err-map.was)
 
-pub returns-in-Refused : goal.returns-in-Refused
-returns-in-Refused c =
-    let built = c.from_values_with_workspace-built.ensures in
-    made-refused built.regular_built (λ (m : RegularMap). regular_surface binary64 m c.from_values_with_workspace-built.new.coeffs)
-    (regular-made _ _ _ _ _ _ _ _ (lent-room c.workspace-scratch.ensures c.requires) refl _ _ c.starts_of-starts.ensures c.steps_of-steps.ensures _ _ _ _ _ built.regular_built built.regular_fit_leaves)
-    _ c.in-Refused.is
+pub returns : goal.returns
+returns c =
+    let built = c.from_values_with_workspace.ensures in
+    regular-made _ _ _ _ _ _ _ _ (lent-room c.workspace-scratch.ensures c.requires) refl _ _ c.starts_of-starts.ensures c.steps_of-steps.ensures _ _ _ _ built.regular_built built.regular_fit_leaves _ c.in_ok-map.was
