@@ -9,34 +9,30 @@ ghost use Rattle.std.specs.Float.Ieee.{of_bits, to_bits};
 ghost use Rattle.float_text.specs.Digits.{digit_of, letter_of, number_from, digits_of};
 ghost use Rattle.float_text.specs.Bits.{bits_in, bits_text, float_in, float_text, same_bits, Written};
 
-// The value of a digit, 0 to 9 and a to f; 16 of any other byte.
+// The value of a digit, 0 to 9 and a to f; 16 of any other byte, a number that no base has, so that one test refuses both a byte
+// that is no digit and a digit that the base lacks, as `None` could not.
+#[tactic(auto, unfolding(crate::specs::Digits::digit_of))]
 fn digit(b: u8) -> u64
     ensures { result ≡ digit_of b }
 {
-    if b < 48 {
-        return 16;
+    match b {
+        b'0'..=b'9' => (b - b'0') as u64,
+        b'a'..=b'f' => (b - b'a' + 10) as u64,
+        _ => 16,
     }
-    if b < 58 {
-        return (b - 48) as u64;
-    }
-    if b < 97 {
-        return 16;
-    }
-    if b < 103 {
-        return (b - 87) as u64;
-    }
-    16
 }
 
 // The byte of a digit.
+#[tactic(auto, unfolding(crate::specs::Digits::letter_of))]
 fn letter(d: u64) -> u8
     requires { d < 16 }
     ensures { result ≡ letter_of d }
 {
     if d < 10 {
-        return 48 + d as u8;
+        b'0' + d as u8
+    } else {
+        b'a' - 10 + d as u8
     }
-    87 + d as u8
 }
 
 // The number that digits to a base stand for.
@@ -45,19 +41,18 @@ pub fn read_digits(text: &[u8], base: u64) -> Option<u64>
     ensures { result ≡ number_from base 0 text.now }
 {
     let mut n: u64 = 0;
-    let mut i: usize = 0;
-    while i < text.len() {
-        let d = digit(text[i]);
+    for b in text {
+        let d = digit(*b);
         if d >= base {
             return None;
         }
         n = n * base + d;
-        i += 1;
     }
     Some(n)
 }
 
 // The 64 bits of a text of 16 digits; any other text is unreadable.
+#[tactic(auto, unfolding(crate::specs::Bits::bits_in))]
 pub fn read_bits(text: &[u8]) -> Option<u64>
     ensures { result ≡ bits_in text.now }
 {
@@ -75,20 +70,17 @@ pub fn read_float(text: &[u8]) -> Option<f64>
     read_bits(text).map(float_of)
 }
 
-// `count` digits of a number to a base, put into `out` from `at` on; `unit` is the weight of the highest.
-pub fn put_digits(n: u64, base: u64, unit: u64, count: usize, at: usize, out: &mut [u8])
-    requires count_in_bounds { at + count ≤ length out.old }
-    requires base_nonzero { (0 < base) × (base ≤ 16) × (n < base ^ count) × (unit ≡ base ^ count / base) }
-    ensures { out.new ≡ paste out.old at (digits_of base count n) count }
+// The lowest digits of a number to a base, as many as `out` holds; `unit` is the weight of the highest.
+pub fn put_digits(n: u64, base: u64, unit: u64, out: &mut [u8])
+    requires { (0 < base) × (base ≤ 16) × (n < base ^ length out.old) × (unit ≡ base ^ length out.old / base) }
+    ensures { out.new ≡ digits_of base (length out.old) n }
 {
     let mut left = n;
     let mut weight = unit;
-    let mut i: usize = 0;
-    while i < count {
-        out[at + i] = letter(left / weight);
+    for place in out.iter_mut() {
+        *place = letter(left / weight);
         left = left % weight;
         weight = weight / base;
-        i += 1;
     }
 }
 
@@ -96,10 +88,7 @@ pub fn put_digits(n: u64, base: u64, unit: u64, count: usize, at: usize, out: &m
 fn has_room(at: usize, out: &[u8]) -> bool
     ensures { result ≡ leb (at + 16) (length out.now) }
 {
-    if out.len() < 16 {
-        return false;
-    }
-    at <= out.len() - 16
+    out.len() >= 16 && at <= out.len() - 16
 }
 
 // Writes 64 bits as 16 digits into `out` from `at` on, and answers true; or false where there is no room, with `out` as it was.
@@ -109,11 +98,12 @@ pub fn write_bits(bits: u64, at: usize, out: &mut [u8]) -> bool
     if !has_room(at, out) {
         return false;
     }
-    put_digits(bits, 16, 0x1000000000000000, 16, at, out);
+    put_digits(bits, 16, 0x1000000000000000, &mut out[at..at + 16]);
     true
 }
 
 // Writes a float's bits likewise.
+#[tactic(auto, unfolding(crate::specs::Bits::float_text))]
 pub fn write_float(x: f64, at: usize, out: &mut [u8]) -> bool
     ensures { Written (float_text x) at out.old result out.new }
 {
@@ -141,6 +131,7 @@ pub fn bits_of(x: f64) -> u64
 }
 
 // Whether two floats have the same bits, any NaN for any NaN; so zeros of different signs differ, and a NaN is the same as itself.
+#[tactic(auto, unfolding(crate::specs::Bits::same_bits))]
 pub fn same_bits(x: f64, y: f64) -> bool
     ensures { result ≡ same_bits x y }
 {

@@ -1,4 +1,3 @@
-pub mod Finding
+pub mod Firsts
 pub mod FloatRows
-pub mod Decimals
 pub mod FirstLines

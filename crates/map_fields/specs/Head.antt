@@ -1,21 +1,19 @@
 -- Line 1 of the map program's input: the kind of grid, the flag, the axis count and as many lengths. Assumes nothing.
-use Rattle.std.specs.Prelude.{◌≡◌, Bool, true, false, cond, ◌&&◌, ◌||◌, List, [], ◌∷◌, ℕ, ◌<◌, ◌≤◌, eqb, ltb, length, take, get_or, Some, None}
-use Rattle.std.specs.Prelude.{Option as Maybe}
-use Rattle.std.proofs.Math.Option.{Option, none, some}
-use Rattle.std.proofs.lemmas.List.Edits.{sets}
+use Rattle.std.specs.Prelude.{◌≡◌, Bool, true, false, cond, ◌&&◌, ◌||◌, List, [], ◌∷◌, ℕ, ◌≤◌, eqb, ltb, length, take, Option, Some, None}
 use Rattle.float_text.specs.Digits.{number_from}
+use Rattle.map_fields.specs.declared.head.FirstLine.{FirstLine}
 
 -- ---- decimals
 
 -- 1 to 8 decimal digits; zeros may lead
-unfoldable pub decimal_in : List ℕ → Maybe ℕ
+unfoldable pub decimal_in : List ℕ → Option ℕ
 decimal_in text = cond (eqb (length text) 0) None (cond (ltb 8 (length text)) None (number_from 10 0 text))
 
-abbrev pub is_decimal : Maybe ℕ → Bool
+abbrev pub is_decimal : Option ℕ → Bool
 is_decimal (Some n) = true
 is_decimal None = false
 
-abbrev pub or_zero : Maybe ℕ → ℕ
+abbrev pub or_zero : Option ℕ → ℕ
 or_zero (Some n) = n
 or_zero None = 0
 
@@ -50,29 +48,25 @@ is_head kind flag count lengths =
     && (are_decimals (count ∷ lengths) && eqb (length lengths) (or_zero (decimal_in count))))
 
 unfoldable pub head_in : List (List ℕ) → Option Head
-head_in [] = none
-head_in (kind ∷ []) = none
-head_in (kind ∷ flag ∷ []) = none
+head_in [] = None
+head_in (kind ∷ []) = None
+head_in (kind ∷ flag ∷ []) = None
 head_in (kind ∷ flag ∷ count ∷ lengths) =
     cond (is_head kind flag count lengths)
-    (some (record { regular = is_byte 69 kind; linear = is_byte 49 flag; dims = decimals_of lengths }))
-    none
+    (Some (record { regular = is_byte 69 kind; linear = is_byte 49 flag; dims = decimals_of lengths }))
+    None
 
 -- ---- what the functions that read line 1 promise
 
--- decimals to the end of a line were counted, and as many as there is room for kept
-pub record Counted (ps : List (List ℕ)) (old : List ℕ) (ok : Bool) (count : ℕ) (new : List ℕ) : Type 0 where
-  pub read : ok ≡ are_decimals ps
-  pub size : ok ≡ true → count ≡ length ps
-  pub some-field : ok ≡ true → 0 < count
-  pub kept : ok ≡ true → new ≡ sets old 0 (decimals_of ps)
+-- an axis count, and as many lengths behind it
+unfoldable pub are_counted : List (List ℕ) → Bool
+are_counted [] = false
+are_counted (count ∷ lengths) = are_decimals (count ∷ lengths) && eqb (length lengths) (or_zero (decimal_in count))
 
--- letter and flag are good, and say so
-pub record Lettered (kind flag : List ℕ) (regular linear : Bool) : Type 0 where
-  pub good-kind : is_byte 69 kind || is_byte 82 kind ≡ true
-  pub good-flag : is_byte 49 flag || is_byte 48 flag ≡ true
-  pub is-regular : regular ≡ is_byte 69 kind
-  pub is-linear : linear ≡ is_byte 49 flag
+-- the lengths of up to four axes are kept
+pub record Kept (lengths : List ℕ) (count : ℕ) (dims : List ℕ) : Type 0 where
+  pub axes : count ≡ length lengths
+  pub kept : count ≤ 4 → take count dims ≡ lengths
 
 -- the lengths of the axes, whatever they are
 unfoldable pub lengths_in : List (List ℕ) → List ℕ
@@ -81,17 +75,7 @@ lengths_in (kind ∷ []) = []
 lengths_in (kind ∷ flag ∷ []) = []
 lengths_in (kind ∷ flag ∷ count ∷ lengths) = decimals_of lengths
 
--- the four numbers behind the first
-unfoldable pub four_of : List ℕ → List ℕ
-four_of numbers = get_or numbers 1 0 ∷ get_or numbers 2 0 ∷ get_or numbers 3 0 ∷ get_or numbers 4 0 ∷ []
-
 -- line 1 was read, with its axis count and the lengths of up to four axes
-pub record HeadRead (ps : List (List ℕ)) (readable regular linear : Bool) (count : ℕ) (dims : List ℕ) : Type 0 where
-  pub head : head_in ps ≡ cond readable (some (record { regular = regular; linear = linear; dims = lengths_in ps })) none
-  pub axes : readable ≡ true → count ≡ length (lengths_in ps)
-  pub kept : readable ≡ true → count ≤ 4 → take count dims ≡ lengths_in ps
-
--- the axis count and the lengths were read, behind a letter and a flag that say so
-abbrev pub LengthsRead : List (List ℕ) → Bool → Bool → Bool → Bool → Bool → ℕ → List ℕ → Type 0
-LengthsRead ps regular linear readable regular' linear' count dims =
-    (kind flag : List ℕ) → Lettered kind flag regular linear → HeadRead (kind ∷ flag ∷ ps) readable regular' linear' count dims
+pub record HeadRead (ps : List (List ℕ)) (line : FirstLine) : Type 0 where
+  pub head : head_in ps ≡ Some (record { regular = line.regular; linear = line.linear; dims = lengths_in ps })
+  pub lengths : Kept (lengths_in ps) line.count line.dims

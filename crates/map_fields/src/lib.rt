@@ -2,7 +2,9 @@
 #![tactic(auto)]
 
 mod head;
+mod parts;
 mod rows;
 
-pub use head::{FirstLine, head_at};
-pub use rows::{Row, find, read_row};
+pub use head::{FirstLine, read_head};
+pub use parts::Lines;
+pub use rows::{read_floats, read_row};

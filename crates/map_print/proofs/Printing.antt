@@ -1,84 +1,70 @@
--- Printing, one write after another. Assumes nothing.
-use mathlib.Core.Path.{◌≡◌, refl, sym, ap, subst, ◌∙◌}
+-- How long the printed texts are, and how the parts of a line are joined. Assumes nothing.
+use mathlib.Core.Path.{◌≡◌, refl, sym, ap, ◌∙◌}
 use mathlib.Core.Bool.{Bool, true, false, cond}
 use mathlib.Core.List.{List, [], ◌∷◌, ◌++◌, append_assoc, append-nil}
 use Prim.Native.Nat.{ℕ, ◌+◌, ◌*◌, ◌≤◌, ◌<◌}
 use native.Mathlib.Numerals.{add-one}
 use native.Mathlib.Omega.{arith}
-use lib.Dec.{ltb, lit≤}
-use borrow.Author.Tests.{lt-ltb, le-ltb, le-leb}
-use lib.ListN.{length, take, drop, set, get_or, length-append, drop_of_length-le}
-use lib.Seq.{take-suc-set, drop-cons, paste, take-paste, take_all}
+use lib.Dec.{ltb, eqb, lit≤}
+use borrow.Author.Tests.{lt-ltb, le-ltb, le-leb, ne_eqb}
+use lib.ListN.{length, take, get_or, length-append, drop_of_length-le}
+use lib.Seq.{take-suc, take_all}
 use lib.Ieee.{Float, to_bits, binary64, nan}
+use Rattle.std.proofs.lemmas.List.Edits.{paste_all}
+use Rattle.std.proofs.Math.Seq.{paste}
 use Rattle.float_text.specs.Digits.{digits_of}
 use Rattle.float_text.specs.Bits.{float_text, bits_text, Written}
 use Rattle.float_text.proofs.Writing.{length_digits}
 use Rattle.map_print.specs.Print.{Wrote, floats_text, count_text, width_of, answer_line}
 
--- ---- one write after another
-pub Wrote-then : {old new next : List ℕ} {at a b : ℕ} {xs ys : List ℕ} → Wrote old at xs new a → Wrote new a ys next b → Wrote old at (xs ++ ys) next b
-Wrote-then {xs = xs} {ys = ys} p q = record {
-  place = q.place ∙ rw (length-append xs ys, p.place) (omega arith);
-  text = q.text ∙ rw (p.text, append_assoc);
-}
+-- ---- one part after another
+pub grown : {old now more : List ℕ} → Wrote old more now → length now ≡ length old + length more
+grown {old} {now} {more} w = ap length w.text ∙ length-append old more
+
+pub Wrote-then : {old now next xs ys : List ℕ} → Wrote old xs now → Wrote now ys next → Wrote old (xs ++ ys) next
+Wrote-then {old} {now} {next} {xs} {ys} e f = record { text = f.text ∙ ap (λ (l : List ℕ). l ++ ys) e.text ∙ append_assoc old xs ys }
 
 -- the same bytes, in other words
-pub Wrote-as : {old new : List ℕ} {at next : ℕ} {xs ys : List ℕ} → xs ≡ ys → Wrote old at xs new next → Wrote old at ys new next
-Wrote-as {old} {new} {at} {next} e w = subst (λ (t : List ℕ). Wrote old at t new next) e w
-
-pub Wrote-put : (old : List ℕ) (at b : ℕ) → at < length old → Wrote old at (b ∷ []) (set old at b) (at + 1)
-Wrote-put old at b l = record { place = refl; text = rw (add-one at) (take-suc-set old at b l) }
-
--- the same, for the bytes that a buffer was overwritten with
-pub Wrote-paste : (old : List ℕ) (at : ℕ) (text : List ℕ) (n : ℕ) (new : List ℕ) → length text ≡ n → at + n ≤ length old → new ≡ paste old at text n
-    → Wrote old at text new (at + n)
-Wrote-paste old at text n new e room p = record {
-  place = omega (arith, e);
-  text = rw p (take-paste old at text n (omega arith) (omega (arith, e)) ∙ ap (λ (t : List ℕ). take at old ++ t) (take_all n text (omega (arith, e))));
-}
-
--- decimal digits
-pub Wrote-digits : (old : List ℕ) (at n count : ℕ) (new : List ℕ) → at + count ≤ length old → new ≡ paste old at (digits_of 10 count n) count
-    → Wrote old at (digits_of 10 count n) new (at + count)
-Wrote-digits old at n count new room p = Wrote-paste old at (digits_of 10 count n) count new (length_digits 10 count n) room p
+pub Wrote-as : {old now xs ys : List ℕ} → xs ≡ ys → Wrote old xs now → Wrote old ys now
+Wrote-as {old} e w = record { text = w.text ∙ ap (λ (l : List ℕ). old ++ l) e }
 
 -- ---- floats
 pub length-float_text : (x : Float) → length (float_text x) ≡ 16
 unfolding float_text bits_text
 length-float_text x = length_digits 16 16 (to_bits binary64 x)
 
-pub Wrote-float : (old : List ℕ) (at : ℕ) (x : Float) (answer : Bool) (new : List ℕ) → at + 16 ≤ length old → Written (float_text x) at old answer new
-    → Wrote old at (float_text x) new (at + 16)
-Wrote-float old at x answer new room w =
-    let yes : answer ≡ true = w.room ∙ le-leb (at + 16) (length old) room in
-    Wrote-paste old at (float_text x) 16 new (length-float_text x) room (w.buffer ∙ ap (λ (b : Bool). cond b (paste old at (float_text x) 16) old) yes)
+-- the text that a buffer of just its length was overwritten with
+pub text-written : (x : Float) (answer : Bool) (old new : List ℕ) → length old ≡ 16 → Written (float_text x) 0 old answer new → new ≡ float_text x
+text-written x answer old new n w =
+    let yes : answer ≡ true = w.room ∙ le-leb (0 + 16) (length old) (omega (arith, n)) in
+    w.buffer ∙ ap (λ (b : Bool). cond b (paste old 0 (float_text x) 16) old) yes
+    ∙ paste_all old 0 (float_text x) 16 (sym (length-float_text x))
+    ∙ ap (λ (r : List ℕ). float_text x ++ r) (drop_of_length-le old (let q : length old ≤ 0 + 16 = omega (arith, n) in q))
+    ∙ append-nil (float_text x)
 
 pub length-floats_text : (xs : List Float) → length (floats_text xs) ≡ 17 * length xs
 unfolding floats_text
 length-floats_text [] = refl
 length-floats_text (x ∷ xs) = rw (length-append (float_text x) (floats_text xs), length-float_text x) (omega (arith, length-floats_text xs))
 
-pub record Listing (at : ℕ) (old : List ℕ) (xs : List Float) (new : List ℕ) (a i : ℕ) : Type 0 where
-  pub few : i ≤ length xs
-  pub size : length new ≡ length old
-  pub place : a ≡ at + 17 * i
-  pub text : take a new ++ floats_text (drop i xs) ≡ take at old ++ floats_text xs
-
-pub Listing-start : (at : ℕ) (old : List ℕ) (xs : List Float) → Listing at old xs old at 0
-Listing-start at old xs = record { few = omega arith; size = refl; place = omega arith; text = refl }
-
-pub Listing-step : (at : ℕ) (old : List ℕ) (xs : List Float) (new : List ℕ) (a i : ℕ) (new' : List ℕ) (a' : ℕ) → Listing at old xs new a i → i < length xs → Wrote new a (44 ∷ float_text (get_or xs i nan)) new' a' → length new' ≡ length new → Listing at old xs new' a' (i + 1)
+floats-append : (xs ys : List Float) → floats_text (xs ++ ys) ≡ floats_text xs ++ floats_text ys
 unfolding floats_text
-Listing-step at old xs new a i new' a' h l w k = record {
-  few = omega arith;
-  size = k ∙ h.size;
-  place = omega (arith, w.place, length-float_text (get_or xs i nan), h.place);
-  text = rw (w.text, append_assoc, add-one i) (sym (ap (λ (z : List Float). take a new ++ floats_text z) (drop-cons xs i nan l)) ∙ h.text);
-}
+floats-append [] ys = refl
+floats-append (x ∷ xs) ys = rw (floats-append xs ys, append_assoc)
 
-pub Listing-done : (at : ℕ) (old : List ℕ) (xs : List Float) (new : List ℕ) (a i : ℕ) → Listing at old xs new a i → length xs ≤ i → Wrote old at (floats_text xs) new a
+-- the floats so far, and one more
+pub floats-start : (old : List ℕ) (xs : List Float) → Wrote old (floats_text (take 0 xs)) old
 unfolding floats_text
-Listing-done at old xs new a i h l = record { place = omega (arith, h.few, h.place, length-floats_text xs); text = sym (append-nil (take a new)) ∙ subst (λ (z : List Float). take a new ++ floats_text z ≡ take at old ++ floats_text xs) (drop_of_length-le xs l) h.text }
+floats-start old xs = record { text = sym (append-nil old) }
+
+pub floats-more : (old now next : List ℕ) (xs : List Float) (i : ℕ) → i < length xs → Wrote old (floats_text (take i xs)) now → Wrote now (44 ∷ float_text (get_or xs i nan)) next
+    → Wrote old (floats_text (take (i + 1) xs)) next
+unfolding floats_text
+floats-more old now next xs i l w v =
+    Wrote-as (sym (rw (add-one i, take-suc xs i nan l, floats-append (take i xs) (get_or xs i nan ∷ []), append-nil))) (Wrote-then w v)
+
+pub floats-done : (old now : List ℕ) (xs : List Float) (i : ℕ) → length xs ≤ i → Wrote old (floats_text (take i xs)) now → Wrote old (floats_text xs) now
+floats-done old now xs i l w = Wrote-as (ap floats_text (take_all i xs l)) w
 
 -- ---- counts
 module _ (n : ℕ) where
@@ -115,6 +101,19 @@ module _ (n : ℕ) where
 
 -- ---- values
 
+-- a refused query prints its number alone
+pub number-alone : (n : ℕ) (v : Float) (g : List Float) → 0 < n → 86 ∷ 44 ∷ (48 + n) ∷ 10 ∷ [] ≡ answer_line n v g
+unfolding answer_line
+number-alone n v g l = rw (ne_eqb n 0 (λ e. omega (arith, e)))
+
 pub values-text : (v : Float) (g : List Float) → answer_line 0 v g ≡ 86 ∷ 44 ∷ 48 ∷ 44 ∷ (float_text v ++ (floats_text g ++ (10 ∷ [])))
 unfolding answer_line floats_text
 values-text v g = rw append_assoc
+
+pub length-answer : (n : ℕ) (v : Float) (g : List Float) → length (answer_line n v g) ≤ 21 + 17 * length g
+unfolding answer_line floats_text
+length-answer n v g = go (eqb n 0)
+  where
+    go : (t : Bool) → length (cond t (86 ∷ 44 ∷ 48 ∷ (floats_text (v ∷ g) ++ (10 ∷ []))) (86 ∷ 44 ∷ (48 + n) ∷ 10 ∷ [])) ≤ 21 + 17 * length g
+    go true = rw (length-append (float_text v ++ floats_text g) (10 ∷ []), length-append (float_text v) (floats_text g)) (omega (arith, length-float_text v, length-floats_text g))
+    go false = omega arith

@@ -1,5 +1,5 @@
--- What the map program prints, line by line, and what printing leaves in the output. Assumes nothing.
-use Rattle.std.specs.Prelude.{◌≡◌, cond, List, [], ◌∷◌, ◌++◌, ℕ, ◌+◌, eqb, ltb, length, take, Float}
+-- What the map program prints, line by line, and what printing leaves. Assumes nothing.
+use Rattle.std.specs.Prelude.{◌≡◌, cond, List, [], ◌∷◌, ◌++◌, ℕ, ◌+◌, eqb, ltb, Float}
 use Rattle.float_text.specs.Digits.{digits_of}
 use Rattle.float_text.specs.Bits.{float_text}
 
@@ -34,7 +34,6 @@ answer_line number value gradient =
 unfoldable pub total_line : ℕ → ℕ → List ℕ
 total_line queries outside = 84 ∷ 44 ∷ (count_text queries ++ (44 ∷ (count_text outside ++ (10 ∷ []))))
 
--- the output up to a place, with bytes put behind it, up to the next place
-pub record Wrote (old : List ℕ) (at : ℕ) (bytes new : List ℕ) (next : ℕ) : Type 0 where
-  pub place : next ≡ at + length bytes
-  pub text : take next new ≡ take at old ++ bytes
+-- bytes are put behind what was printed
+pub record Wrote (old bytes new : List ℕ) : Type 0 where
+  pub text : new ≡ old ++ bytes

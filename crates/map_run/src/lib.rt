@@ -1,11 +1,12 @@
 // The map program: reads standard input, works, writes.
 #![tactic(auto)]
 
-ghost use Rattle.std.specs.Prelude.{◌≡◌, ◌++◌, ◌≤◌, length, take};
-ghost use Rattle.map_work.specs.Steps.{Worked};
+ghost use Rattle.std.specs.Prelude.{◌≡◌, ◌++◌, length, take};
+ghost use Rattle.map_work.specs.Program.{program};
 ghost use Rattle.map_run.specs.Reading.{Got};
 
 use full_reads::read_full;
+use map_print::Page;
 use std::io::{self, Read};
 
 // How many bytes were read: kept, and by a further read.
@@ -21,46 +22,27 @@ fn read_input<R: Read>(from: &mut R, input: &mut [u8], spare: &mut [u8]) -> Byte
 {
     let kept = read_full(from, input);
     if kept < input.len() {
-        return Bytes {
-            kept: kept,
-            spare: 0,
-        };
+        return Bytes { kept, spare: 0 };
     }
     let more = read_full(from, spare);
-    Bytes {
-        kept: kept,
-        spare: more,
-    }
+    Bytes { kept, spare: more }
 }
 
-// How many bytes were read, and how many of `out` were written.
-#[derive(Clone, Copy)]
-struct Ran {
-    kept: usize,
-    spare: usize,
-    printed: usize,
-}
-
-fn answer<R: Read>(from: &mut R, input: &mut [u8], spare: &mut [u8], out: &mut [u8]) -> Ran
-    requires { (length input.old ≡ 32768) × (98440 ≤ length out.old) }
-    ensures { Worked (take result.kept input.new ++ take result.spare spare.new) result.printed out.new }
+// Reads, and works on what was read.
+fn answer<R: Read>(from: &mut R, input: &mut [u8], spare: &mut [u8], page: &mut Page) -> Bytes
+    requires { length input.old ≡ 32768 }
+    ensures { page.new ≡ program (take result.kept input.new ++ take result.spare spare.new) }
 {
-    let bytes = read_input(from, input, spare);
-    let kept = bytes.kept;
-    let more = bytes.spare;
-    let n = map_work::work_on(&input[..kept], &spare[..more], out);
-    Ran {
-        kept: kept,
-        spare: more,
-        printed: n,
-    }
+    let read = read_input(from, input, spare);
+    map_work::work_on(&input[..read.kept], &spare[..read.spare], page);
+    read
 }
 
 // The program, with its input and what it prints.
 pub fn run(rt: &(impl Input + Print)) -> io::Result<()> {
     let mut input = [0u8; 32768];
     let mut spare = [0u8; 1];
-    let mut out = [0u8; 98440];
-    let ran = answer(&mut rt.reader(), &mut input, &mut spare, &mut out);
-    rt.write_all(&out[..ran.printed])
+    let mut page = Page::new();
+    answer(&mut rt.reader(), &mut input, &mut spare, &mut page);
+    rt.write_all(page.as_bytes())
 }

@@ -6,16 +6,14 @@ use mathlib.Core.List.{List, [], ◌∷◌}
 use Prim.Native.Nat.{ℕ, ◌<◌}
 use lib.Dec.{ltb, lit<}
 use lib.ListN.{length, drop}
-use lib.Ieee.{Float, binary64}
+use lib.Ieee.{Float}
 use borrow.Author.Tests.{ltb-true}
 use Rattle.shape.specs.Checks.{Check, first_refusal, limit_checks}
 use Rattle.evaluation.specs.Spline.{one_answer}
 use Rattle.knots.specs.Joined.{all_rise}
 use Rattle.regular_blocks.specs.Checks.{any_step_bad}
-use Rattle.regular_map.specs.Records as Regular
-use Rattle.rectilinear_map.specs.Records as Rectilinear
 use Rattle.map_fields.specs.Head.{Head}
-use Rattle.map_spline.specs.Surface.{regular_surface, rectilinear_surface, map_number, asked_number, surface_of}
+use Rattle.map_spline.specs.Surface.{map_number, asked_number, surface_of}
 use Rattle.map_spline.specs.declared.build.Map.{Map}
 
 -- ---- checks whose numbers are below a limit
@@ -58,8 +56,5 @@ map-digit h row = go h.regular (any_step_bad (drop (length h.dims) row)) (all_ri
 
 pub asked-digit : (m : Map) (row coefs x : List Float) → asked_number (surface_of m row coefs) x < 10
 unfolding one_answer
-asked-digit m row coefs x = go m.regular
-  where
-    go : (t : Bool) → asked_number (cond t (regular_surface binary64 (Regular.map_of m.even) coefs) (rectilinear_surface binary64 (Rectilinear.map_of m.uneven) row coefs)) x < 10
-    go true = first_below 10 _ (lit< tt) refl
-    go false = first_below 10 _ (lit< tt) refl
+asked-digit (Map.Regular m) row coefs x = first_below 10 _ (lit< tt) refl
+asked-digit (Map.Rectilinear m) row coefs x = first_below 10 _ (lit< tt) refl

@@ -1,15 +1,14 @@
 -- The map that the first three lines give, on either grid, and what it answers to a query. Assumes nothing.
 --     row        the floats of line 2
 --     samples    those of line 3
-use Rattle.std.specs.Prelude.{◌≡◌, Bool, cond, ◌&&◌, List, ℕ, ◌*◌, ◌≤◌, eqb, length, take, drop, Float}
+use Rattle.std.specs.Prelude.{◌≡◌, Bool, cond, ◌&&◌, List, ℕ, ◌*◌, ◌≤◌, eqb, length, take, drop, Float, Result, Ok, Err}
 use Rattle.std.specs.Float.{Format, binary64}
 use Rattle.shape.specs.Shape.{size, longest}
 use Rattle.shape.specs.Usable.{Usable}
 use Rattle.knots.specs.Joined.{total, all_rise}
 use Rattle.regular.specs.Fit.{regular_fit}
 use Rattle.rectilinear.specs.Fit.{rectilinear_fit}
-use Rattle.multibspline.specs.Numbers.{f0}
-use Rattle.evaluation.specs.Axes.{zeros, query}
+use Rattle.evaluation.specs.Axes.{query}
 use Rattle.evaluation.specs.Spline.{Spline, one_answer, gradient}
 use Rattle.regular_map.specs.Map as Regular
 use Rattle.regular_map.specs.Records as RegularRecord
@@ -21,7 +20,11 @@ use Rattle.rectilinear_blocks.specs.Map.{RectilinearMap}
 use Rattle.rectilinear_blocks.specs.Eval.{rectilinear}
 use Rattle.map_fields.specs.Head.{Head}
 use Rattle.map_spline.specs.Outside.{regular_outside, rectilinear_outside}
+use Rattle.shape.specs.Refusal.{refusal_number}
+use Rattle.shape.specs.declared.answers.Refusal.{Refusal}
 use Rattle.map_spline.specs.declared.build.Map.{Map}
+use Rattle.map_spline.specs.declared.replies.Reply.{Reply}
+use Rattle.map_spline.specs.declared.replies.FittedMap.{FittedMap}
 
 -- a map as its queries see it
 pub record Surface : Type 0 where
@@ -91,10 +94,22 @@ asked_outside s x = eqb (asked_number s x) 0 && s.outside x
 
 -- ---- what the functions promise
 
--- the map that a record of the code stands for
+-- the map that a value of the code stands for
 abbrev pub surface_of : Map → List Float → List Float → Surface
-surface_of m row coefs =
-    cond m.regular (regular_surface binary64 (RegularRecord.map_of m.even) coefs) (rectilinear_surface binary64 (RectilinearRecord.map_of m.uneven) row coefs)
+surface_of (Map.Regular m) row coefs = regular_surface binary64 (RegularRecord.map_of m) coefs
+surface_of (Map.Rectilinear m) row coefs = rectilinear_surface binary64 (RectilinearRecord.map_of m) row coefs
+
+abbrev pub surface_in : FittedMap → Surface
+surface_in m = surface_of m.map m.row.now m.coeffs.now
+
+-- a call that makes a map: its number, and its map, which is blank where the call is refused
+abbrev pub made_number : Result Map Refusal → ℕ
+made_number (Ok m) = 0
+made_number (Err refusal) = refusal_number refusal
+
+abbrev pub made_surface : Bool → Result Map Refusal → List Float → List Float → Surface
+made_surface on_regular (Ok m) row coefs = surface_of m row coefs
+made_surface on_regular (Err refusal) row coefs = cond on_regular (regular_surface binary64 Regular.blank coefs) (rectilinear_surface binary64 Rectilinear.blank row coefs)
 
 -- the shape is accepted, and the lengths of the buffers are right
 pub record Lent (count : ℕ) (lens : List ℕ) (wanted row samples coefs scratch : ℕ) : Type 0 where
@@ -106,7 +121,7 @@ pub record Lent (count : ℕ) (lens : List ℕ) (wanted row samples coefs scratc
   pub scratch-room : 2 * longest (take count lens) ≤ scratch
 
 -- a map is built, or refused with a number; `refused` is what then stands in its place. Free: scratch, which nobody reads
--- again, and the record of the other grid, which no query looks at
+-- again
 pub record MadeFrom (expected : ℕ) (made refused : Surface) (number : ℕ) (s : Surface) : Type 0 where
   pub answers : number ≡ expected
   pub map : s ≡ cond (eqb number 0) made refused
@@ -123,9 +138,14 @@ RectilinearMade h row samples coefs number s =
 abbrev pub Makes : Head → List Float → List Float → List Float → ℕ → Surface → Type 0
 Makes h row samples coefs number s = MadeFrom (map_number h row) (surface binary64 h row samples) (refused_surface binary64 h row samples coefs) number s
 
--- a query is asked; value and gradient are zeros where it is refused
-pub record Replied (s : Surface) (x : List Float) (number : ℕ) (value : Float) (outside : Bool) (parts : List Float) : Type 0 where
-  pub the_number : number ≡ asked_number s x
-  pub the_value : value ≡ cond (eqb number 0) (asked_value s x) f0
-  pub the-gradient : parts ≡ cond (eqb number 0) (gradient s.spline (query s.spline.axes x 1 0)) zeros
-  pub is-outside : outside ≡ asked_outside s x
+-- a query is answered
+pub record Answered (s : Surface) (x : List Float) (reply : Reply) : Type 0 where
+  pub accepted : asked_number s x ≡ 0
+  pub value_is : reply.value ≡ asked_value s x
+  pub gradient-is : reply.parts ≡ gradient s.spline (query s.spline.axes x 1 0)
+  pub outside-is : reply.outside ≡ s.outside x
+
+-- or it is refused
+abbrev pub Replied : Surface → List Float → Result Reply Refusal → Type 0
+Replied s x (Ok reply) = Answered s x reply
+Replied s x (Err refusal) = asked_number s x ≡ refusal_number refusal

@@ -5,5 +5,5 @@ mod build;
 mod outside;
 mod replies;
 
-pub use build::{Made, Map, make};
-pub use replies::{Reply, ask};
+pub use build::{Map, make};
+pub use replies::{FittedMap, Reply};

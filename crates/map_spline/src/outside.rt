@@ -14,11 +14,8 @@ fn is_outside(sat: Saturation) -> bool
     ensures { result ≡ is_outside sat }
 {
     match sat {
-        Saturation::None => false,
-        Saturation::InsideLow => false,
-        Saturation::OutsideLow => true,
-        Saturation::InsideHigh => false,
-        Saturation::OutsideHigh => true,
+        Saturation::OutsideLow | Saturation::OutsideHigh => true,
+        Saturation::None | Saturation::InsideLow | Saturation::InsideHigh => false,
     }
 }
 
@@ -28,8 +25,8 @@ fn regular_axis(map: MultiBsplineRegular, axis: usize, x: f64) -> bool
     ensures { result ≡ is_outside_loc (Regular.loc_at binary64 map.dims map.starts map.steps axis x) }
 {
     match map.place(axis, x) {
-        regular_map::Placed::At(sat, _) => is_outside(sat),
-        regular_map::Err(_) => false,
+        Ok((sat, _)) => is_outside(sat),
+        Err(_) => false,
     }
 }
 
@@ -37,12 +34,10 @@ pub fn regular_outside(map: MultiBsplineRegular, x: &[f64]) -> bool
     requires { (first_refusal (Regular.record_checks map.count map.dims map.steps) ≡ 0) × (length x.now ≡ map.count) }
     ensures { result ≡ regular_outside binary64 map.count map.dims map.starts map.steps x.now }
 {
-    let mut a: usize = 0;
-    while a < x.len() {
-        if regular_axis(map, a, x[a]) {
+    for (a, y) in x.iter().enumerate() {
+        if regular_axis(map, a, *y) {
             return true;
         }
-        a += 1;
     }
     false
 }
@@ -53,11 +48,8 @@ fn rectilinear_axis(map: MultiBsplineRectilinear, grid: &[f64], axis: usize, x: 
     ensures { result ≡ is_outside (Rectilinear.loc_at map.count map.dims grid.now axis x).sat }
 {
     match map.place(grid, axis, x) {
-        rectilinear_map::Placed::At(loc) => {
-            let sat = loc.sat;
-            is_outside(sat)
-        }
-        rectilinear_map::Err(_) => false,
+        Ok(loc) => is_outside(loc.sat),
+        Err(_) => false,
     }
 }
 
@@ -65,12 +57,10 @@ pub fn rectilinear_outside(map: MultiBsplineRectilinear, grid: &[f64], x: &[f64]
     requires { (first_refusal (Rectilinear.grid_checks map.count map.dims grid.now) ≡ 0) × (length x.now ≡ map.count) }
     ensures { result ≡ rectilinear_outside map.count map.dims grid.now x.now }
 {
-    let mut a: usize = 0;
-    while a < x.len() {
-        if rectilinear_axis(map, grid, a, x[a]) {
+    for (a, y) in x.iter().enumerate() {
+        if rectilinear_axis(map, grid, a, *y) {
             return true;
         }
-        a += 1;
     }
     false
 }

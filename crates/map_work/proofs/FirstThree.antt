@@ -2,40 +2,38 @@
 use mathlib.Core.Path.{◌≡◌, refl, sym, ap, ◌∙◌}
 use mathlib.Core.Bool.{Bool, true, false, cond, ◌||◌}
 use mathlib.Core.List.{List, [], ◌∷◌, ◌++◌, append-nil}
-use mathlib.Core.Option.{none, some}
-use Prim.Native.Nat.{ℕ, ◌+◌, ◌*◌, ◌-◌, ◌≤◌, ◌<◌, min}
-use native.Mathlib.Nat.{pos_of_ne-zero, min-le_right}
+use Prim.Native.Nat.{ℕ, ◌+◌, ◌*◌, ◌≤◌, ◌<◌}
 use native.Mathlib.Omega.{arith}
 use lib.Dec.{eqb, ltb}
-use lib.ListN.{length, take, drop, length-append, length-take}
+use lib.ListN.{length, take, length-append}
 use lib.Ieee.{Float, binary64}
-use borrow.Author.Tests.{eq-eqb, ne_eqb, lt-ltb, le-ltb, ltb-true, ltb-false}
+use borrow.Author.Tests.{ne_eqb, lt-ltb, le-ltb, ltb-true, ltb-false}
+use Rattle.std.specs.Prelude.{Option, Some, None, MatchOption}
+use Rattle.shape.specs.Refusal.{refusal_number}
+use Rattle.shape.specs.declared.answers.Refusal.{Refusal}
 use Rattle.shape.specs.Shape.{size}
 use Rattle.shape.specs.Checks.{first_refusal, any_short, limit_checks, shape_checks, most_points}
 use Rattle.shape.specs.Sizes.{coeff_storage_len}
 use Rattle.shape.specs.Usable.{Usable}
-use Rattle.shape.proofs.Accepted.{usable, axes-are, storage-is, longest-le, usable-not-empty, points-are}
+use Rattle.shape.proofs.Accepted.{usable, axes-are, storage-is, longest-le, usable-not-empty, points-are, refusal-suc}
 use Rattle.knots.specs.Joined.{total}
 use Rattle.knots.proofs.Totals.{total-le-size}
 use Rattle.regular_map.specs.Map as Regular
 use Rattle.rectilinear_map.specs.Map as Rectilinear
-use Rattle.map_fields.specs.Fields.{lines, fields, before, row_in, given, RowRead}
-use Rattle.map_fields.specs.Head.{Head, lengths_in, HeadRead}
+use Rattle.map_fields.specs.Fields.{lines, fields, row_in, rest, room_of}
+use Rattle.map_fields.specs.Head.{Head, head_in, lengths_in, HeadRead}
 use Rattle.map_fields.specs.Records.{head_of}
 use Rattle.map_fields.specs.declared.head.FirstLine.{FirstLine}
-use Rattle.map_fields.proofs.Finding.{line_at}
+use Rattle.map_fields.proofs.FloatRows.{row-long, room-lines}
 use Rattle.map_print.specs.Print.{Wrote, unreadable_line, map_line}
-use Rattle.map_print.proofs.Printing.{Wrote-then, Wrote-as}
+use Rattle.map_print.proofs.Printing.{Wrote-then, grown}
 use Rattle.map_spline.specs.Surface.{Surface, regular_of, rectilinear_of, row_length, surface, Lent, Makes}
 use Rattle.map_spline.proofs.Making.{made-is}
-use Rattle.map_spline.proofs.Digits.{map-digit}
+use Rattle.map_spline.proofs.Digits.{map-digit, shape-digit}
 use Rattle.map_work.specs.Program.{queries, fitted, third, second, shape_number, shaped, first, program}
-use Rattle.map_work.specs.Steps.{Ready, Kept, Worked, Shaped, from_shape}
+use Rattle.map_work.specs.Steps.{Ready, Kept, Shaped, from_shape}
 
 -- ---- line 2 and line 3
-
-pub ready-next : {n at next axes out : ℕ} → Ready n at axes out 4 → at ≤ next → next ≤ n + 1 → Ready n next axes out 4
-ready-next h a e = record { short = h.short; on = e; some-axis = h.some-axis; at-most-four = h.at-most-four; room = omega (arith, h.room) }
 
 -- the axes of the map are those of line 1
 axes-of : (h : Head) (row samples : List Float) → (surface binary64 h row samples).spline.axes ≡ length h.dims
@@ -46,52 +44,56 @@ axes-of h row samples = go h.regular
     go true = refl
     go false = refl
 
-module _ (input : List ℕ) (at n : ℕ) (ok : Bool) (next : ℕ) (got : List Float) (h : RowRead input at n ok next got) where
-  was_read : ok ≡ true → row_in n (lines (drop at input)) ≡ some got
-  was_read k = h.row ∙ ap (λ (b : Bool). given b got) k
+module _ (ls ms : List (List ℕ)) (k : ℕ) (got : List Float) (r : row_in k ls ≡ Some got) (a : ms ≡ rest ls) where
+  pub ready-next : {axes n : ℕ} → Ready ls axes n → Ready ms axes n
+  ready-next h = let l : 17 * k + room_of ms ≤ room_of ls = rw a (row-long k ls got r) in record { some-axis = h.some-axis; at-most-four = h.at-most-four; room = omega (arith, h.room, l) }
 
-  unread : ok ≡ false → row_in n (lines (drop at input)) ≡ none
-  unread k = h.row ∙ ap (λ (b : Bool). given b got) k
-
-  module _ (head : Head) (out new : List ℕ) (r : ℕ) where
-    pub row-unread : n ≡ row_length head → ok ≡ false → Wrote out 0 (unreadable_line 2) new r → Wrote out 0 (second head (lines (drop at input))) new r
+  module _ (head : Head) (old new : List ℕ) where
+    pub row_read : k ≡ row_length head → Wrote old (third head got ms) new → Wrote old (second head ls) new
     unfolding second
-    row-unread e k w = rw (← e, unread k) w
+    row_read e w = rw (← e, r, ← a) w
 
-    pub row_read : n ≡ row_length head → ok ≡ true → Wrote out 0 (third head got (lines (drop next input))) new r → Wrote out 0 (second head (lines (drop at input))) new r
-    unfolding second
-    row_read e k w = rw (← e, was_read k, h.after) w
+    pub samples-read : (row : List Float) → k ≡ size head.dims → Wrote old (fitted head row got ms) new → Wrote old (third head row ls) new
+    unfolding third
+    samples-read row e w = rw (← e, r, ← a) w
 
-    module _ (row : List Float) (e : n ≡ size head.dims) where
-      pub samples-unread : ok ≡ false → Wrote out 0 (unreadable_line 3) new r → Wrote out 0 (third head row (lines (drop at input))) new r
-      unfolding third
-      samples-unread k w = rw (← e, unread k) w
+module _ (head : Head) (ls : List (List ℕ)) (k : ℕ) (r : row_in k ls ≡ None) (old new : List ℕ) where
+  pub row-unread : k ≡ row_length head → Wrote old (unreadable_line 2) new → Wrote old (second head ls) new
+  unfolding second
+  row-unread e w = rw (← e, r) w
 
-      pub samples-read : ok ≡ true → Wrote out 0 (fitted head row got (lines (drop next input))) new r → Wrote out 0 (third head row (lines (drop at input))) new r
-      unfolding third
-      samples-read k w = rw (← e, was_read k, h.after) w
+  pub samples-unread : (row : List Float) → k ≡ size head.dims → Wrote old (unreadable_line 3) new → Wrote old (third head row ls) new
+  unfolding third
+  samples-unread row e w = rw (← e, r) w
 
 -- ---- the map
 
-module _ (head : Head) (row samples coefs : List Float) (number : ℕ) (s : Surface) (f : Makes head row samples coefs number s) where
-  -- M's number has one digit
-  pub number-digit : number < 10
-  number-digit = rw f.answers (map-digit head row)
+module _ (head : Head) (row samples coefs : List Float) (s : Surface) where
+  module _ (refusal : Refusal) (f : Makes head row samples coefs (refusal_number refusal) s) (number : ℕ) (n : number ≡ refusal_number refusal) where
+    -- M's number has one digit
+    pub number-digit : number < 10
+    number-digit = rw (n, f.answers) (map-digit head row)
 
-  module _ (ls : List (List ℕ)) (out mid : List ℕ) (o : ℕ) (w : Wrote out 0 (map_line number) mid o) where
-    pub map-refused : (number ≡ 0 → ⊥) → Wrote out 0 (fitted head row samples ls) mid o
+    pub map-refused : (ls : List (List ℕ)) (old new : List ℕ) → Wrote old (map_line number) new → Wrote old (fitted head row samples ls) new
     unfolding fitted
-    map-refused z = rw (← f.answers, ne_eqb number 0 z, append-nil (map_line number)) w
+    map-refused ls old new w =
+        let above = refusal-suc refusal in
+        rw (← f.answers, ← n, ne_eqb number 0 (λ z. omega (arith, n, z, above)), append-nil (map_line number)) w
 
-    pub map-run : number ≡ 0 → (new : List ℕ) (r : ℕ) → Wrote mid o (queries s 0 0 ls) new r → Wrote out 0 (fitted head row samples ls) new r
-    unfolding fitted
-    map-run z new r t = rw (← f.answers, eq-eqb number 0 z, ← made-is f z) (Wrote-then w t)
+  pub map-run : Makes head row samples coefs 0 s → (ls : List (List ℕ)) (old mid new : List ℕ) → Wrote old (map_line 0) mid → Wrote mid (queries s 0 0 ls) new
+      → Wrote old (fitted head row samples ls) new
+  unfolding fitted
+  map-run f ls old mid new w t = rw (← f.answers, ← made-is f) (Wrote-then w t)
 
 -- the axes of a map that is not refused are as many as line 1 says
-pub made-axes : (line : FirstLine) → Shaped line → (row samples coefs : List Float) (number : ℕ) (s : Surface) → Makes (head_of line) row samples coefs number s → number ≡ 0
-    → line.count ≡ s.spline.axes
-made-axes line u row samples coefs number s f z =
-    sym (ap (λ (t : Surface). t.spline.axes) (made-is f z) ∙ axes-of (head_of line) row samples ∙ axes-are line.count line.dims u.four u.usable)
+pub made-axes : (line : FirstLine) → Shaped line → (row samples coefs : List Float) (s : Surface) → Makes (head_of line) row samples coefs 0 s → line.count ≡ s.spline.axes
+made-axes line u row samples coefs s f =
+    sym (ap (λ (t : Surface). t.spline.axes) (made-is f) ∙ axes-of (head_of line) row samples ∙ axes-are line.count line.dims u.four u.usable)
+
+-- the room behind M
+pub ready-run : {ls : List (List ℕ)} {axes : ℕ} {old new : List ℕ} (number : ℕ) → Ready ls axes (length old + 4) → Wrote old (map_line number) new → Ready ls axes (length new)
+unfolding map_line
+ready-run number h w = record { some-axis = h.some-axis; at-most-four = h.at-most-four; room = omega (arith, h.room, grown w) }
 
 -- ---- the shape
 
@@ -194,6 +196,21 @@ module _ (line : FirstLine) (shaped : Shaped line) where
     scratch-room = omega (arith, longest-le (take count lens) (usable-not-empty count lens four u), shaped.small);
   }
 
+-- the shape, as the code finds it
+pub ready-first : {ls : List (List ℕ)} (n : ℕ) (line : FirstLine) → Shaped line → n + 3 * room_of ls + 132 ≤ 98440 → Ready ls line.count (n + 4)
+ready-first n line shape room = record { some-axis = shape.usable.some-axis; at-most-four = shape.usable.at-most-four; room = omega arith }
+
+module _ (h : Head) (count : ℕ) (ls : List (List ℕ)) (old new : List ℕ) where
+  pub shape-read : first_refusal (limit_checks 512 count h.dims) ≡ 0 → Wrote old (second h ls) new → Wrote old (from_shape h count ls) new
+  shape-read e w = rw e w
+
+  module _ (refusal : Refusal) (e : first_refusal (limit_checks 512 count h.dims) ≡ refusal_number refusal) (number : ℕ) (n : number ≡ refusal_number refusal) where
+    pub shape-number-digit : number < 10
+    shape-number-digit = rw (n, ← e) (shape-digit 512 count h.dims)
+
+    pub shape-refused : Wrote old (map_line number) new → Wrote old (from_shape h count ls) new
+    shape-refused w = let above = refusal-suc refusal in rw (e, ← n, ne_eqb number 0 (λ z. omega (arith, n, z, above))) w
+
 -- ---- line 1
 
 -- a shape of more than four axes is refused, whatever lengths were kept
@@ -209,19 +226,37 @@ shape_is regular linear count four ds ls e f = go (ltb 4 count) refl
         rw (← e, q, no)
     go false q = rw (f (ltb-false 4 count q), ← e)
 
-no_line : (input out new : List ℕ) (r : ℕ) → length input ≡ 0 → Wrote out 0 (unreadable_line 1) new r → Wrote out 0 (first (lines input)) new r
-unfolding first lines
-no_line [] out new r z w = w
-no_line (b ∷ bs) out new r z w = absurd (let z : ⊥ = omega arith in z)
+module _ {ls ms : List (List ℕ)} where
+  pub no-line : (ls ≡ []) × (ms ≡ []) → first ls ≡ unreadable_line 1
+  unfolding first
+  no-line e = rw e.0
+
+  module _ {l : List ℕ} (e : ls ≡ l ∷ ms) where
+    bad-line : head_in (fields l) ≡ None → first ls ≡ unreadable_line 1
+    unfolding first
+    bad-line h = rw (e, h)
+
+    good-line : (line : FirstLine) → HeadRead (fields l) line → (first ls ≡ from_shape (head_of line) line.count ms) × (room_of ms < room_of ls)
+    unfolding first room_of
+    good-line line h =
+        (rw (e, h.head) (sym (shape_is line.regular line.linear line.count line.dims (lengths_in (fields l)) ms h.lengths.axes h.lengths.kept)), rw e (omega arith))
+
+    pub line-read : (o : Option FirstLine) → MatchOption o (head_in (fields l) ≡ None) (HeadRead (fields l))
+        → MatchOption o (first ls ≡ unreadable_line 1) (λ line. (first ls ≡ from_shape (head_of line) line.count ms) × (room_of ms < room_of ls))
+    line-read None h = bad-line h
+    line-read (Some line) h = good-line line h
 
 -- ---- the whole
 
-module _ (input spare : List ℕ) (k : Kept (length input) (length spare)) where
-  pub too_long : (out new : List ℕ) (r : ℕ) → 0 < length spare → Wrote out 0 (unreadable_line 0) new r → Worked (input ++ spare) r new
+module _ (input spare : List ℕ) (k : Kept (length input) (length spare)) (page new : List ℕ) (clear : page ≡ []) where
+  alone : {text : List ℕ} → Wrote page text new → new ≡ text
+  alone {text} w = w.text ∙ ap (λ (l : List ℕ). l ++ text) clear
+
+  pub too_long : 0 < length spare → Wrote page (unreadable_line 0) new → new ≡ program (input ++ spare)
   unfolding program
-  too_long out new r l w =
+  too_long l w =
       let many : 32768 < length (input ++ spare) = rw length-append (omega (arith, k.full l)) in
-      record { count = rw (lt-ltb 32768 (length (input ++ spare)) many) (omega (arith, w.place)); text = rw (lt-ltb 32768 (length (input ++ spare)) many) w.text }
+      rw (lt-ltb 32768 (length (input ++ spare)) many) (alone w)
 
   module _ (none : length spare ≤ 0) where
     whole : input ++ spare ≡ input
@@ -231,65 +266,14 @@ module _ (input spare : List ℕ) (k : Kept (length input) (length spare)) where
         go [] l = append-nil input
         go (b ∷ bs) l = absurd (let z : ⊥ = omega arith in z)
 
-    worked : (out new : List ℕ) (r : ℕ) → Wrote out 0 (first (lines input)) new r → Worked (input ++ spare) r new
+    pub worked : {ls : List (List ℕ)} {text : List ℕ} → ls ≡ lines input → first ls ≡ text → Wrote page text new → new ≡ program (input ++ spare)
     unfolding program
-    worked out new r w =
-        let few = le-ltb 32768 (length input) k.most in
-        record { count = rw (whole, few) (omega (arith, w.place)); text = rw (whole, few) w.text }
+    worked e f w = rw (whole, le-ltb 32768 (length input) k.most, ← e, f) (alone w)
 
-    pub empty-input : (out new : List ℕ) (r : ℕ) → length input ≡ 0 → Wrote out 0 (unreadable_line 1) new r → Worked (input ++ spare) r new
-    empty-input out new r z w = worked out new r (no_line input out new r z w)
-
-    module _ (n : length input ≡ 0 → ⊥) (e : ℕ) (g : e ≡ 0 + length (before 10 (drop 0 input)))
-        (readable regular linear : Bool) (count : ℕ) (dims : List ℕ) (h : HeadRead (fields (take e input)) readable regular linear count dims) (out new : List ℕ) (r : ℕ) where
-      lines_are : lines input ≡ take e input ∷ lines (drop (e + 1) input)
-      lines_are = line_at input 0 e (pos_of_ne-zero n) g ∙ ap (λ (k : ℕ). take k input ∷ lines (drop (e + 1) input)) (let q : e - 0 ≡ e = omega arith in q)
-
-      pub bad-head : readable ≡ false → Wrote out 0 (unreadable_line 1) new r → Worked (input ++ spare) r new
-      unfolding first
-      bad-head b w = worked out new r (rw (lines_are, h.head, b) w)
-
-      pub good-head : readable ≡ true → Wrote out 0 (from_shape (record { regular = regular; linear = linear; dims = take count dims }) count (lines (drop (e + 1) input))) new r
-          → Worked (input ++ spare) r new
-      unfolding first
-      good-head b w =
-          worked out new r (rw (lines_are, h.head, b) (Wrote-as (shape_is regular linear count dims (lengths_in (fields (take e input))) (lines (drop (e + 1) input)) (h.axes b) (h.kept b)) w))
-
--- what is to be printed fits
-pub worked-fits : {input : List ℕ} {r : ℕ} {out : List ℕ} → Worked input r out → r ≤ length out
-worked-fits {input} {r} {out} h =
-    let n : r ≡ min r (length out) = h.count ∙ sym (ap length h.text) ∙ length-take r out in
-    omega (arith, n, min-le_right r (length out))
-
--- ---- room that is kept from call to call
-
-length-map_line : (n : ℕ) → length (map_line n) ≡ 4
-unfolding map_line
-length-map_line n = refl
-
-pub ready-run : {n at axes out out' : ℕ} {old new : List ℕ} {o : ℕ} (number : ℕ) → Ready n at axes out 4 → out' ≡ out → Wrote old 0 (map_line number) new o → Ready n at axes out' o
-ready-run number h s w = record {
-  short = h.short;
-  on = h.on;
-  some-axis = h.some-axis;
-  at-most-four = h.at-most-four;
-  room = omega (arith, h.room, w.place, length-map_line number, s);
-}
-
-pub ready-first : {n at out : ℕ} (line : FirstLine) → Shaped line → n ≤ 32768 → 1 ≤ at → at ≤ n + 1 → 98440 ≤ out → Ready n at line.count out 4
-ready-first line u short begun on room = record {
-  short = short;
-  on = on;
-  some-axis = u.usable.some-axis;
-  at-most-four = u.usable.at-most-four;
-  room = omega arith;
-}
-
--- ---- the shape, as the code finds it
-
-module _ (h : Head) (count : ℕ) (ls : List (List ℕ)) (n : ℕ) (e : n ≡ first_refusal (limit_checks 512 count h.dims)) where
-  pub shape-read : (out new : List ℕ) (r : ℕ) → n ≡ 0 → Wrote out 0 (second h ls) new r → Wrote out 0 (from_shape h count ls) new r
-  shape-read out new r z w = rw (← e, eq-eqb n 0 z) w
-
-  pub shape-refused : (out new : List ℕ) (r : ℕ) → (n ≡ 0 → ⊥) → Wrote out 0 (map_line n) new r → Wrote out 0 (from_shape h count ls) new r
-  shape-refused out new r z w = rw (← e, ne_eqb n 0 z) w
+-- the room for what is printed of an input that is not too long
+pub room-first : (input spare page : List ℕ) (ls ms : List (List ℕ)) → Kept (length input) (length spare) → page ≡ [] → ls ≡ lines input → room_of ms < room_of ls
+    → length page + 3 * room_of ms + 132 ≤ 98440
+room-first input spare page ls ms k clear e l =
+    let n : room_of ls ≤ length input + 1 = rw e (omega (arith, room-lines input)) in
+    let z : length page ≡ 0 = ap length clear in
+    omega (arith, k.most)

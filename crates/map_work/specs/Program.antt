@@ -1,6 +1,5 @@
 -- The map program: what it prints, of what it reads; bytes in, bytes out. Assumes nothing.
-use Rattle.std.specs.Prelude.{Bool, true, false, cond, List, [], ◌∷◌, ◌++◌, ℕ, ◌+◌, eqb, ltb, length, Float}
-use Rattle.std.proofs.Math.Option.{Option, none, some}
+use Rattle.std.specs.Prelude.{Bool, true, false, cond, List, [], ◌∷◌, ◌++◌, ℕ, ◌+◌, eqb, ltb, length, Float, Option, Some, None}
 use Rattle.std.specs.Float.{binary64}
 use Rattle.shape.specs.Shape.{size}
 use Rattle.shape.specs.Checks.{first_refusal, limit_checks}
@@ -11,8 +10,8 @@ use Rattle.map_spline.specs.Surface.{Surface, row_length, map_number, surface, a
 
 -- go on with what was read, or end with a line
 abbrev pub when_read : {A : Type 0} → Option A → List ℕ → (A → List ℕ) → List ℕ
-when_read none end go = end
-when_read (some x) end go = go x
+when_read None end go = end
+when_read (Some x) end go = go x
 
 -- ---- the queries
 

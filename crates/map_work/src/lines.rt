@@ -1,77 +1,70 @@
 // The first three lines, and the whole: a function for each definition of specs/Program.antt, in the same order of reading.
-ghost use Rattle.std.specs.Prelude.{◌≡◌, ◌++◌, ◌+◌, ◌≤◌, length, take, drop};
+ghost use Rattle.std.specs.Prelude.{◌≡◌, ◌++◌, ◌+◌, ◌*◌, ◌≤◌, ◌<◌, length, take, MatchOption, MatchResult};
 ghost use Rattle.shape.specs.Shape.{size};
 ghost use Rattle.shape.specs.Checks.{first_refusal, limit_checks};
-ghost use Rattle.map_fields.specs.Fields.{lines};
+ghost use Rattle.shape.specs.Refusal.{refusal_number};
+ghost use Rattle.map_fields.specs.Fields.{room_of};
 ghost use Rattle.map_fields.specs.Records.{head_of};
-ghost use Rattle.map_print.specs.Print.{Wrote};
+ghost use Rattle.map_print.specs.Print.{Wrote, unreadable_line};
 ghost use Rattle.map_spline.specs.Surface.{row_length};
-ghost use Rattle.map_work.specs.Program.{fitted, third, second};
-ghost use Rattle.map_work.specs.Steps.{Ready, Kept, Worked, Shaped, from_shape};
+ghost use Rattle.map_work.specs.Program.{fitted, third, second, first, program};
+ghost use Rattle.map_work.specs.Steps.{Ready, Kept, Shaped, from_shape};
 
 use crate::queries::run;
-use map_fields::FirstLine;
-use shape::Shape;
+use map_fields::{FirstLine, Lines};
+use map_print::Page;
+use map_spline::FittedMap;
+use shape::{Refusal, Shape};
 
-// The map, and the queries from a place on, in coefficients of its size.
+// The map, and the queries, in coefficients of its size.
 fn fitted_in(
-    input: &[u8],
-    at: usize,
+    lines: Lines<'_>,
     line: FirstLine,
     row: &[f64],
     samples: &[f64],
     coeffs: &mut [f64],
-    out: &mut [u8],
-) -> usize
+    page: &mut Page,
+)
     requires shaped { Shaped line × (length row.now ≡ row_length (head_of line)) × (length samples.now ≡ size (head_of line).dims) × (length coeffs.old ≡ size (head_of line).dims) }
-    requires ready { Ready (length input.now) at line.count (length out.old) 4 }
-    ensures { Wrote out.old 0 (fitted (head_of line) row.now samples.now (lines (drop at input.now))) out.new result }
+    requires ready { Ready lines line.count (length page.old + 4) }
+    ensures { Wrote page.old (fitted (head_of line) row.now samples.now lines.entry) page.new }
 {
-    let made = map_spline::make(line, row, samples, coeffs);
-    let o = map_print::put_map(out, 0, made.number);
-    if made.number == 0 {
-        let map = made.map;
-        return run(input, at, line.count, map, row, coeffs, out, o);
+    match map_spline::make(line, row, samples, coeffs) {
+        Ok(map) => {
+            page.put_map(0);
+            run(lines, line.count, &FittedMap { map, row, coeffs }, page);
+        }
+        Err(refusal) => page.put_map(refusal.number()),
     }
-    o
 }
 
 // The same in coefficients of its own.
-fn fitted(
-    input: &[u8],
-    at: usize,
-    line: FirstLine,
-    row: &[f64],
-    samples: &[f64],
-    out: &mut [u8],
-) -> usize
+fn fitted(lines: Lines<'_>, line: FirstLine, row: &[f64], samples: &[f64], page: &mut Page)
     requires shaped { Shaped line × (length row.now ≡ row_length (head_of line)) × (length samples.now ≡ size (head_of line).dims) }
-    requires ready { Ready (length input.now) at line.count (length out.old) 4 }
-    ensures { Wrote out.old 0 (fitted (head_of line) row.now samples.now (lines (drop at input.now))) out.new result }
+    requires ready { Ready lines line.count (length page.old + 4) }
+    ensures { Wrote page.old (fitted (head_of line) row.now samples.now lines.entry) page.new }
 {
     let n = samples.len();
     let mut coeffs = [0.0f64; 512];
-    fitted_in(input, at, line, row, samples, &mut coeffs[..n], out)
+    fitted_in(lines, line, row, samples, &mut coeffs[..n], page);
 }
 
 // From line 3 on, in as many samples as the map has points.
 fn third_in(
-    input: &[u8],
-    at: usize,
+    mut lines: Lines<'_>,
     line: FirstLine,
     row: &[f64],
     samples: &mut [f64],
-    out: &mut [u8],
-) -> usize
+    page: &mut Page,
+)
     requires shaped { Shaped line × (length row.now ≡ row_length (head_of line)) × (length samples.old ≡ size (head_of line).dims) }
-    requires ready { Ready (length input.now) at line.count (length out.old) 4 }
-    ensures { Wrote out.old 0 (third (head_of line) row.now (lines (drop at input.now))) out.new result }
+    requires ready { Ready lines line.count (length page.old + 4) }
+    ensures { Wrote page.old (third (head_of line) row.now lines.entry) page.new }
 {
-    let read = map_fields::read_row(input, at, samples);
-    if read.ok {
-        return fitted(input, read.next, line, row, samples, out);
+    match map_fields::read_row(&mut lines, samples) {
+        Some(()) => fitted(lines, line, row, samples, page),
+        None => page.put_unreadable(3),
     }
-    map_print::put_unreadable(out, 0, 3)
 }
 
 fn points(line: FirstLine) -> usize
@@ -86,27 +79,26 @@ fn points(line: FirstLine) -> usize
     shape.coeff_storage_len()
 }
 
-fn third(input: &[u8], at: usize, line: FirstLine, row: &[f64], out: &mut [u8]) -> usize
+fn third(lines: Lines<'_>, line: FirstLine, row: &[f64], page: &mut Page)
     requires shaped { Shaped line × (length row.now ≡ row_length (head_of line)) }
-    requires ready { Ready (length input.now) at line.count (length out.old) 4 }
-    ensures { Wrote out.old 0 (third (head_of line) row.now (lines (drop at input.now))) out.new result }
+    requires ready { Ready lines line.count (length page.old + 4) }
+    ensures { Wrote page.old (third (head_of line) row.now lines.entry) page.new }
 {
     let n = points(line);
     let mut samples = [0.0f64; 512];
-    third_in(input, at, line, row, &mut samples[..n], out)
+    third_in(lines, line, row, &mut samples[..n], page);
 }
 
 // From line 2 on, in as many floats as that line is to have.
-fn second_in(input: &[u8], at: usize, line: FirstLine, row: &mut [f64], out: &mut [u8]) -> usize
+fn second_in(mut lines: Lines<'_>, line: FirstLine, row: &mut [f64], page: &mut Page)
     requires shaped { Shaped line × (length row.old ≡ row_length (head_of line)) }
-    requires ready { Ready (length input.now) at line.count (length out.old) 4 }
-    ensures { Wrote out.old 0 (second (head_of line) (lines (drop at input.now))) out.new result }
+    requires ready { Ready lines line.count (length page.old + 4) }
+    ensures { Wrote page.old (second (head_of line) lines.entry) page.new }
 {
-    let read = map_fields::read_row(input, at, row);
-    if read.ok {
-        return third(input, read.next, line, row, out);
+    match map_fields::read_row(&mut lines, row) {
+        Some(()) => third(lines, line, row, page),
+        None => page.put_unreadable(2),
     }
-    map_print::put_unreadable(out, 0, 2)
 }
 
 // How many floats line 2 has.
@@ -121,62 +113,65 @@ fn row_len(line: FirstLine) -> usize
     knots::grid_len(line.count, dims)
 }
 
-fn second(input: &[u8], at: usize, line: FirstLine, out: &mut [u8]) -> usize
+fn second(lines: Lines<'_>, line: FirstLine, page: &mut Page)
     requires shaped { Shaped line }
-    requires ready { Ready (length input.now) at line.count (length out.old) 4 }
-    ensures { Wrote out.old 0 (second (head_of line) (lines (drop at input.now))) out.new result }
+    requires ready { Ready lines line.count (length page.old + 4) }
+    ensures { Wrote page.old (second (head_of line) lines.entry) page.new }
 {
     let n = row_len(line);
     let mut row = [0.0f64; 512];
-    second_in(input, at, line, &mut row[..n], out)
+    second_in(lines, line, &mut row[..n], page);
 }
 
-// The refusal of the shape, or 0. That an array of four has four entries is known where it is a parameter, and so handed on.
-fn shape_number(count: usize, dims: [usize; 4]) -> u64
-    ensures value { result ≡ first_refusal (limit_checks 512 count (take count dims)) }
+// Whether the shape is accepted, within the program's limit. That an array of four has four entries is known where it is a
+// parameter, and so handed on.
+fn check_shape(count: usize, dims: [usize; 4]) -> Result<(), Refusal>
+    ensures value { MatchResult result (λ accepted. first_refusal (limit_checks 512 count (take count dims)) ≡ 0)
+        (λ refusal. first_refusal (limit_checks 512 count (take count dims)) ≡ refusal_number refusal) }
     ensures dims_len { length dims ≡ 4 }
 {
     let shape = Shape { count, dims };
-    let answer = shape.check();
-    let number = answer.number();
-    if number != 0 {
-        return number;
-    }
+    shape.check()?;
     if shape.coeff_storage_len() > 512 {
-        return 3;
+        return Err(Refusal::TooManyPoints);
     }
-    0
+    Ok(())
 }
 
 // The map's shape is refused, or line 2 is read.
-fn shaped(input: &[u8], at: usize, line: FirstLine, out: &mut [u8]) -> usize
-    requires { (length input.now ≤ 32768) × (1 ≤ at) × (at ≤ length input.now + 1) × (98440 ≤ length out.old) }
-    ensures { Wrote out.old 0 (from_shape (head_of line) line.count (lines (drop at input.now))) out.new result }
+fn shaped(lines: Lines<'_>, line: FirstLine, page: &mut Page)
+    requires { length page.old + 3 * room_of lines + 132 ≤ 98440 }
+    ensures { Wrote page.old (from_shape (head_of line) line.count lines.entry) page.new }
 {
     let dims = line.dims;
-    let number = shape_number(line.count, dims);
-    if number == 0 {
-        return second(input, at, line, out);
+    match check_shape(line.count, dims) {
+        Ok(()) => second(lines, line, page),
+        Err(refusal) => page.put_map(refusal.number()),
     }
-    map_print::put_map(out, 0, number)
 }
 
-// The work on what was read: what is printed stands at the front of `out`. `spare` is what a further read got; where it got
-// anything, the input is too long.
-pub fn work_on(input: &[u8], spare: &[u8], out: &mut [u8]) -> usize
-    requires { Kept (length input.now) (length spare.now) × (98440 ≤ length out.old) }
-    ensures { Worked (input.now ++ spare.now) result out.new }
+// What line 1 says, where there is one and it can be read.
+fn first_line(lines: &mut Lines<'_>) -> Option<FirstLine>
+    ensures { MatchOption result (first lines.old ≡ unreadable_line 1)
+        (λ line. (first lines.old ≡ from_shape (head_of line) line.count lines.new) × (room_of lines.new < room_of lines.old)) }
 {
+    map_fields::read_head(lines.next()?)
+}
+
+// The work on what was read: what is printed stands on the page, and what stood there before does not. `spare` is what a further
+// read got; where it got anything, the input is too long.
+pub fn work_on(input: &[u8], spare: &[u8], page: &mut Page)
+    requires { Kept (length input.now) (length spare.now) }
+    ensures { page.new ≡ program (input.now ++ spare.now) }
+{
+    page.clear();
     if spare.len() > 0 {
-        return map_print::put_unreadable(out, 0, 0);
+        page.put_unreadable(0);
+        return;
     }
-    if input.len() == 0 {
-        return map_print::put_unreadable(out, 0, 1);
+    let mut lines = Lines::new(input);
+    match first_line(&mut lines) {
+        Some(line) => shaped(lines, line, page),
+        None => page.put_unreadable(1),
     }
-    let e = map_fields::find(input, 0, 10);
-    let line = map_fields::head_at(input, e);
-    if line.readable {
-        return shaped(input, e + 1, line, out);
-    }
-    map_print::put_unreadable(out, 0, 1)
 }

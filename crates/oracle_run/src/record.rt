@@ -1,5 +1,5 @@
 // A record of a list: reading it, whether it is whole, and the shape among its words.
-ghost use Rattle.std.specs.Prelude.{◌≡◌, [], ◌∷◌, ◌/◌, ◌≤◌, ◌↔◌, length, IfOk, IsOk};
+ghost use Rattle.std.specs.Prelude.{◌≡◌, [], ◌∷◌, ◌/◌, ◌≤◌, ◌↔◌, length, IfOk, IfSome, IsOk};
 ghost use Rattle.std.specs.Result.{OkIff};
 ghost use Rattle.oracle_list.specs.Words.{number_at};
 
@@ -37,10 +37,9 @@ fn read_words(list: &mut File, text: &mut [u8]) -> Result<usize, Unreadable>
 
 // Reads the next record into `text`: its kind, how many words follow, and those, at most 3584 and no more than `text` holds. None
 // where the list has no more.
-pub fn read_record<'a>(
-    list: &mut File,
-    text: &'a mut [u8],
-) -> Result<Option<&'a [u8]>, Unreadable> {
+pub fn read_record<'a>(list: &mut File, text: &'a mut [u8]) -> Result<Option<&'a [u8]>, Unreadable>
+    ensures { IfOk result (λ o. IfSome o (λ read. length read.now ≤ length text.old)) }
+{
     if text.len() < 34 {
         return Err(Unreadable);
     }

@@ -3,14 +3,16 @@ ghost use Rattle.std.specs.Prelude.{◌≡◌, true, ◌++◌, length};
 ghost use Rattle.map_work.specs.Program.{program};
 ghost use Rattle.map_work.specs.Steps.{Kept};
 
+use map_print::Page;
+
 // The work on an input.
 fn is_printed_for(input: &[u8], spare: &[u8], expected: &[u8]) -> bool
     requires { Kept (length input.now) (length spare.now) }
     ensures { result ≡ true → program (input.now ++ spare.now) ≡ expected.now }
 {
-    let mut out = [0u8; 98440];
-    let n = map_work::work_on(input, spare, &mut out);
-    oracle_match::is_text(&out, n, expected)
+    let mut page = Page::new();
+    map_work::work_on(input, spare, &mut page);
+    page.as_bytes() == expected
 }
 
 // Whether the program prints what is expected, for an input of any length: it keeps the first 32,768 bytes of a longer one, and a

@@ -1,8 +1,8 @@
 use Rattle.float_text.proofs.Writing.{Printing-start, Printing-weight, Printing-digit, Printing-step, Printing-done}
 use Rattle.float_text.proofs.put_digits.Goals as goal
 
-pub loop-i-init : goal.loop-i-init
-loop-i-init c = search Printing-start
+pub loop-place-init : goal.loop-place-init
+loop-place-init c = search Printing-start
 
 pub nonzero_div-left : goal.nonzero_div-left
 nonzero_div-left c = search Printing-weight
@@ -13,8 +13,8 @@ letter-requires c = search Printing-digit
 pub nonzero_rem-left : goal.nonzero_rem-left
 nonzero_rem-left c = search Printing-weight
 
-pub loop-i-preserved : goal.loop-i-preserved
-loop-i-preserved c = search Printing-step
+pub loop-place-preserved : goal.loop-place-preserved
+loop-place-preserved c = search Printing-step
 
 pub returns : goal.returns
 returns c = search Printing-done

@@ -5,10 +5,10 @@ use Rattle.map_run.proofs.Reading.{got_kept}
 use Rattle.map_run.proofs.answer.Goals as goal
 
 pub slice_bounds-work_on-end-2 : goal.slice_bounds-work_on-end-2
-slice_bounds-work_on-end-2 g c = sym (length-take-le _ _ c.read_input-bytes.ensures.kept_in)
+slice_bounds-work_on-end-2 g c = sym (length-take-le _ _ c.read_input-read.ensures.kept_in)
 
 pub slice_bounds-work_on-end-4 : goal.slice_bounds-work_on-end-4
-slice_bounds-work_on-end-4 g c = sym (length-take-le _ _ c.read_input-bytes.ensures.more-in)
+slice_bounds-work_on-end-4 g c = sym (length-take-le _ _ c.read_input-read.ensures.more-in)
 
-pub work_on-n-requires : goal.work_on-n-requires
-work_on-n-requires g c = (got_kept c.read_input-bytes.ensures c.requires.0, c.requires.1)
+pub work_on-requires : goal.work_on-requires
+work_on-requires g c = got_kept c.read_input-read.ensures c.requires

@@ -1,8 +1,8 @@
-use Rattle.map_fields.proofs.FloatRows.{no_row, one-row}
+use Rattle.map_fields.proofs.FloatRows.{row-none, row-one}
 use Rattle.map_fields.proofs.rows.read_row.Goals as goal
 
-pub returns-then-at-text : goal.returns-then-at-text
-returns-then-at-text c = no_row _ _ _ _ c.if-at-text.true c.requires
+pub returns-in_err-line : goal.returns-in_err-line
+returns-in_err-line c = let r = row-none _ _ _ c.in_err-line.ensures.steps in record { row = rw c.from_residual.ensures r.0; after = r.1 }
 
 pub returns : goal.returns
-returns c = search one-row
+returns c = let r = row-one _ _ _ _ _ c.in_ok-line.ensures.steps c.read_floats.ensures in record { row = r.0; after = r.1 }

@@ -7,10 +7,6 @@ use Rattle.map_spline.proofs.outside.rectilinear_outside.Goals as goal
 pub loop-a-init : goal.loop-a-init
 loop-a-init c = none-start _ _
 
-pub rectilinear_axis-requires : goal.rectilinear_axis-requires
-rectilinear_axis-requires c =
-    (c.requires.0, omega (arith, c.requires.1, c.loop-a-test.true))
-
 pub returns-then-rectilinear_axis : goal.returns-then-rectilinear_axis
 unfolding rectilinear_axis_outside
 returns-then-rectilinear_axis c =
@@ -22,5 +18,4 @@ loop-a-preserved c =
     axis-passed _ _ c.loop-a.a _ c.loop-a.invariant c.rectilinear_axis.ensures (omega (arith, c.requires.1, c.loop-a-test.true)) c.if-rectilinear_axis.false
 
 pub returns : goal.returns
-returns c =
-    none_done _ _ c.loop-a.a c.loop-a.invariant (omega (arith, c.requires.1, c.loop-a-test.false))
+returns c = none_done _ _ c.loop-a.a c.loop-a.invariant (omega (arith, c.requires.1, c.loop-a-test.false))

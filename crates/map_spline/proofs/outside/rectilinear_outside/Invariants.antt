@@ -1,11 +1,6 @@
-use Prim.Native.Nat.{◌-◌}
-use lib.ListN.{length}
 use Rattle.shape.proofs.Below.{NoneYet}
 use Rattle.map_spline.specs.Outside.{rectilinear_axis_outside}
 use Rattle.map_spline.proofs.outside.rectilinear_outside.Given as goal
 
 abbrev pub invariant-loop-a : goal.invariant-loop-a
 invariant-loop-a l = NoneYet (rectilinear_axis_outside l.map.count l.map.dims l.grid l.x) l.map.count l.a
-
-abbrev pub decreases-loop-a : goal.decreases-loop-a
-decreases-loop-a l = length l.x - l.a

@@ -5,13 +5,13 @@ use Rattle.regular_map.proofs.Placing.{placed-is}
 use Rattle.map_spline.specs.Outside.{is_outside_loc}
 use Rattle.map_spline.proofs.outside.regular_axis.Goals as goal
 
-pub returns-in-At : goal.returns-in-At
-returns-in-At c =
+pub returns-in-Ok : goal.returns-in-Ok
+returns-in-Ok c =
     let m = c.args.map in
     c.is_outside.ensures
-    ∙ ap is_outside_loc (sym (ap placed_loc c.in-At.is) ∙ placed-is binary64 m.count m.dims m.starts m.steps c.args.axis c.args.x c.requires.0 c.requires.1 c.place.result c.place.ensures)
+    ∙ ap is_outside_loc (sym (ap placed_loc c.in-Ok.is) ∙ placed-is binary64 m.count m.dims m.starts m.steps c.args.axis c.args.x c.requires.0 c.requires.1 c.place.result c.place.ensures)
 
-pub returns-in-Refused : goal.returns-in-Refused
-returns-in-Refused c =
+pub returns-in-Err : goal.returns-in-Err
+returns-in-Err c =
     let m = c.args.map in
-    ap is_outside_loc (sym (ap placed_loc c.in-Refused.is) ∙ placed-is binary64 m.count m.dims m.starts m.steps c.args.axis c.args.x c.requires.0 c.requires.1 c.place.result c.place.ensures)
+    ap is_outside_loc (sym (ap placed_loc c.in-Err.is) ∙ placed-is binary64 m.count m.dims m.starts m.steps c.args.axis c.args.x c.requires.0 c.requires.1 c.place.result c.place.ensures)

@@ -7,10 +7,6 @@ use Rattle.map_spline.proofs.outside.regular_outside.Goals as goal
 pub loop-a-init : goal.loop-a-init
 loop-a-init c = none-start _ _
 
-pub regular_axis-requires : goal.regular_axis-requires
-regular_axis-requires c =
-    (c.requires.0, omega (arith, c.requires.1, c.loop-a-test.true))
-
 pub returns-then-regular_axis : goal.returns-then-regular_axis
 unfolding regular_axis_outside
 returns-then-regular_axis c =
@@ -22,5 +18,4 @@ loop-a-preserved c =
     axis-passed _ _ c.loop-a.a _ c.loop-a.invariant c.regular_axis.ensures (omega (arith, c.requires.1, c.loop-a-test.true)) c.if-regular_axis.false
 
 pub returns : goal.returns
-returns c =
-    none_done _ _ c.loop-a.a c.loop-a.invariant (omega (arith, c.requires.1, c.loop-a-test.false))
+returns c = none_done _ _ c.loop-a.a c.loop-a.invariant (omega (arith, c.requires.1, c.loop-a-test.false))

@@ -11,11 +11,7 @@ slice_bounds-row-end c = omega (arith, c.row_len-n.ensures, row_small c.args.lin
 pub slice_bounds-second_in-end : goal.slice_bounds-second_in-end
 slice_bounds-second_in-end c = simp length-take (omega (arith, c.row_len-n.ensures, row_small c.args.line c.requires.shaped))
 
-pub second_in-requires : goal.second_in-requires
-second_in-requires c =
-    let p = c.requires in
+pub second_in-requires-clause-shaped : goal.second_in-requires-clause-shaped
+second_in-requires-clause-shaped c =
     let n = c.row_len-n.ensures in
-    record {
-      shaped = (p.shaped, length-take-le _ _ (omega (arith, n, row_small c.args.line p.shaped)) ∙ n);
-      ready = p.ready;
-    }
+    (c.requires.shaped, length-take-le _ _ (omega (arith, n, row_small c.args.line c.requires.shaped)) ∙ n)
