@@ -1,7 +1,7 @@
 // The work of the map program, on slices.
 #![tactic(auto)]
 
-mod lines;
+mod first_lines;
 mod queries;
 
-pub use lines::work_on;
+pub use first_lines::work_on;

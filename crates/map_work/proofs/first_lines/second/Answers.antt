@@ -3,7 +3,7 @@ use lib.ListN.{length-take}
 use lib.Seq.{length-take-le}
 use mathlib.Core.Path.{◌∙◌}
 use Rattle.map_work.proofs.FirstThree.{row_small}
-use Rattle.map_work.proofs.lines.second.Goals as goal
+use Rattle.map_work.proofs.first_lines.second.Goals as goal
 
 pub slice_bounds-row-end : goal.slice_bounds-row-end
 slice_bounds-row-end c = omega (arith, c.row_len-n.ensures, row_small c.args.line c.requires.shaped)

@@ -1,6 +1,6 @@
 use native.Mathlib.Omega.{arith}
 use Rattle.map_work.proofs.FirstThree.{too_long, worked, room-first}
-use Rattle.map_work.proofs.lines.work_on.Goals as goal
+use Rattle.map_work.proofs.first_lines.work_on.Goals as goal
 
 pub returns-then-spare-gt0 : goal.returns-then-spare-gt0
 returns-then-spare-gt0 c = too_long c.args.input.now c.args.spare.now c.requires _ _ c.clear.ensures (omega (arith, c.if-spare-gt0.true)) c.put_unreadable.ensures

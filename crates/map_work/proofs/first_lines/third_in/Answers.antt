@@ -1,5 +1,5 @@
 use Rattle.map_work.proofs.FirstThree.{ready-next, samples-read, samples-unread}
-use Rattle.map_work.proofs.lines.third_in.Goals as goal
+use Rattle.map_work.proofs.first_lines.third_in.Goals as goal
 
 pub fitted-requires-clause-ready : goal.fitted-requires-clause-ready
 fitted-requires-clause-ready c = let r = c.in-Some.ensures in ready-next _ _ _ _ r.row r.after c.requires.ready

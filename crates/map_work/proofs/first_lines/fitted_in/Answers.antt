@@ -1,5 +1,5 @@
 use Rattle.map_work.proofs.FirstThree.{lent, made-axes, ready-run, map-run, map-refused}
-use Rattle.map_work.proofs.lines.fitted_in.Goals as goal
+use Rattle.map_work.proofs.first_lines.fitted_in.Goals as goal
 
 pub make-requires : goal.make-requires
 make-requires c = let p = c.requires.shaped in lent c.args.line p.0 p.1 p.2 p.3

@@ -3,7 +3,7 @@ use native.Mathlib.Omega.{arith}
 use Rattle.shape.proofs.Accepted.{refusal-suc}
 use Rattle.shape.proofs.Exit.{err-is}
 use Rattle.map_work.proofs.FirstThree.{limit-refused, limit-over, limit-passed}
-use Rattle.map_work.proofs.lines.check_shape.Goals as goal
+use Rattle.map_work.proofs.first_lines.check_shape.Goals as goal
 
 pub returns-in_err-check-clause-value : goal.returns-in_err-check-clause-value
 returns-in_err-check-clause-value c =

@@ -1,5 +1,5 @@
 use Rattle.map_work.proofs.FirstThree.{limit-usable, ready-first}
-use Rattle.map_work.proofs.lines.shaped.Goals as goal
+use Rattle.map_work.proofs.first_lines.shaped.Goals as goal
 
 pub second-requires : goal.second-requires
 second-requires c =

@@ -1,5 +1,5 @@
 use Rattle.map_work.proofs.FirstThree.{ready-next, row_read, row-unread}
-use Rattle.map_work.proofs.lines.second_in.Goals as goal
+use Rattle.map_work.proofs.first_lines.second_in.Goals as goal
 
 pub third-requires-clause-ready : goal.third-requires-clause-ready
 third-requires-clause-ready c = let r = c.in-Some.ensures in ready-next _ _ _ _ r.row r.after c.requires.ready

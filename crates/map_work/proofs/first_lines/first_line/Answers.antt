@@ -1,5 +1,5 @@
 use Rattle.map_work.proofs.FirstThree.{no-line, line-read}
-use Rattle.map_work.proofs.lines.first_line.Goals as goal
+use Rattle.map_work.proofs.first_lines.first_line.Goals as goal
 
 pub returns-in_err-next : goal.returns-in_err-next
 returns-in_err-next c = rw c.from_residual.ensures (no-line c.in_err-next.ensures.steps)
