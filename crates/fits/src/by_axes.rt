@@ -9,7 +9,7 @@ ghost use Rattle.multibspline.specs.Records.{samples};
 ghost use Rattle.fits.specs.Fit.{solve, upper, fitted, left_in_scratch, FitRoom};
 
 use crate::grid::Grid;
-use lanes::solve_lines;
+use lanes::{AxisLines, solve_lines};
 use lines::solve_checked;
 use shape::Line;
 
@@ -40,10 +40,13 @@ fn solve_axis<G: Grid>(grid: G, axis: usize, coeffs: &mut [f64], scratch: &mut [
     ensures scratch_after { scratch.new ≡ axis_scratch nan (upper binary64 (G.rows grid)) (solve binary64 (G.rows grid)) (G.dims grid) axis coeffs.old scratch.old }
 {
     let axes = grid.axes();
-    let s = axes.stride(axis);
-    let lines = axes.lines(axis);
-    let longest = axes.longest();
-    solve_lines(grid.axis(axis), s, lines, longest, coeffs, scratch);
+    let lines = AxisLines {
+        system: grid.axis(axis),
+        stride: axes.stride(axis),
+        count: axes.lines(axis),
+        longest: axes.longest(),
+    };
+    solve_lines(lines, coeffs, scratch);
 }
 
 // All the axes, from the samples in `coeffs`.
