@@ -11,6 +11,7 @@ ghost use Rattle.fits.specs.Fit.{solve, upper, fitted, left_in_scratch, FitRoom}
 use crate::grid::Grid;
 use lanes::{AxisLines, solve_lines};
 use lines::solve_checked;
+use multibspline::copy;
 use shape::Line;
 
 // A line of an axis, by its numbers.
@@ -67,6 +68,6 @@ pub fn fit<G: Grid>(grid: G, vals: &[f64], coeffs: &mut [f64], scratch: &mut [f6
     ensures coeffs_after { coeffs.new ≡ fitted binary64 (G.rows grid) (G.dims grid) vals.now }
     ensures scratch_after { scratch.new ≡ left_in_scratch binary64 (G.rows grid) (G.dims grid) vals.now scratch.old }
 {
-    coeffs.copy_from_slice(vals);
+    copy(vals, coeffs);
     solve_axes(grid, coeffs, scratch);
 }
