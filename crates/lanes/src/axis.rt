@@ -25,7 +25,9 @@ pub struct AxisLines<S> {
 fn solve_nth<S: System>(axis: AxisLines<S>, l: usize, coeffs: &mut [f64], scratch: &mut [f64])
     requires { (l < axis.count) × LinesWithin (S.rows axis.system).points axis.stride axis.count axis.longest (length coeffs.old) (length scratch.old) }
     ensures coeffs_after { coeffs.new ≡ solve_line nan (coefficient binary64 (S.rows axis.system)) (S.rows axis.system).points axis.stride l coeffs.old }
-    ensures scratch_after { scratch.new ≡ line_leaves nan (upper_number binary64 (S.rows axis.system)) (coefficient binary64 (S.rows axis.system)) (S.rows axis.system).points axis.stride axis.longest l coeffs.old scratch.old }
+    ensures scratch_after { scratch.new ≡ line_leaves nan
+        (upper_number binary64 (S.rows axis.system)) (coefficient binary64 (S.rows axis.system))
+        (S.rows axis.system).points axis.stride axis.longest l coeffs.old scratch.old }
 {
     let n = axis.system.points();
     let base = first_cell_of(n, axis.stride, l);
@@ -57,7 +59,9 @@ fn solve_many<S: System>(axis: AxisLines<S>, coeffs: &mut [f64], scratch: &mut [
     requires within { (0 < axis.count) × LinesWithin (S.rows axis.system).points axis.stride axis.count axis.longest (length coeffs.old) (length scratch.old) }
     requires whole { axis.count / axis.stride * axis.stride ≡ axis.count }
     ensures coeffs_after { coeffs.new ≡ solve_lines nan (coefficient binary64 (S.rows axis.system)) (S.rows axis.system).points axis.stride axis.count coeffs.old }
-    ensures scratch_after { scratch.new ≡ line_leaves nan (upper_number binary64 (S.rows axis.system)) (coefficient binary64 (S.rows axis.system)) (S.rows axis.system).points axis.stride axis.longest (axis.count - 1) coeffs.old scratch.old }
+    ensures scratch_after { scratch.new ≡ line_leaves nan
+        (upper_number binary64 (S.rows axis.system)) (coefficient binary64 (S.rows axis.system))
+        (S.rows axis.system).points axis.stride axis.longest (axis.count - 1) coeffs.old scratch.old }
 {
     upper_numbers(axis.system, scratch);
     solve_in_place(axis, scratch, coeffs);
@@ -77,7 +81,9 @@ pub fn solve_lines<S: System>(axis: AxisLines<S>, coeffs: &mut [f64], scratch: &
     requires within { (0 < axis.count) × LinesWithin (S.rows axis.system).points axis.stride axis.count axis.longest (length coeffs.old) (length scratch.old) }
     requires whole { axis.count / axis.stride * axis.stride ≡ axis.count }
     ensures coeffs_after { coeffs.new ≡ solve_lines nan (coefficient binary64 (S.rows axis.system)) (S.rows axis.system).points axis.stride axis.count coeffs.old }
-    ensures scratch_after { scratch.new ≡ line_leaves nan (upper_number binary64 (S.rows axis.system)) (coefficient binary64 (S.rows axis.system)) (S.rows axis.system).points axis.stride axis.longest (axis.count - 1) coeffs.old scratch.old }
+    ensures scratch_after { scratch.new ≡ line_leaves nan
+        (upper_number binary64 (S.rows axis.system)) (coefficient binary64 (S.rows axis.system))
+        (S.rows axis.system).points axis.stride axis.longest (axis.count - 1) coeffs.old scratch.old }
 {
     if axis.count == 1 {
         solve_nth(axis, 0, coeffs, scratch);
