@@ -9,8 +9,9 @@ ghost use Rattle.multibspline.specs.Records.{samples};
 ghost use Rattle.fits.specs.Fit.{solve, upper, fitted, left_in_scratch, FitRoom};
 
 use crate::grid::Grid;
-use lanes::solve_lines;
+use lanes::{AxisLines, solve_lines};
 use lines::solve_checked;
+use multibspline::copy;
 use shape::Line;
 
 // A line of an axis, by its numbers.
@@ -40,10 +41,13 @@ fn solve_axis<G: Grid>(grid: G, axis: usize, coeffs: &mut [f64], scratch: &mut [
     ensures scratch_after { scratch.new ≡ axis_scratch nan (upper binary64 (G.rows grid)) (solve binary64 (G.rows grid)) (G.dims grid) axis coeffs.old scratch.old }
 {
     let axes = grid.axes();
-    let s = axes.stride(axis);
-    let lines = axes.lines(axis);
-    let longest = axes.longest();
-    solve_lines(grid.axis(axis), s, lines, longest, coeffs, scratch);
+    let lines = AxisLines {
+        system: grid.axis(axis),
+        stride: axes.stride(axis),
+        count: axes.lines(axis),
+        longest: axes.longest(),
+    };
+    solve_lines(lines, coeffs, scratch);
 }
 
 // All the axes, from the samples in `coeffs`.
@@ -64,6 +68,6 @@ pub fn fit<G: Grid>(grid: G, vals: &[f64], coeffs: &mut [f64], scratch: &mut [f6
     ensures coeffs_after { coeffs.new ≡ fitted binary64 (G.rows grid) (G.dims grid) vals.now }
     ensures scratch_after { scratch.new ≡ left_in_scratch binary64 (G.rows grid) (G.dims grid) vals.now scratch.old }
 {
-    coeffs.copy_from_slice(vals);
+    copy(vals, coeffs);
     solve_axes(grid, coeffs, scratch);
 }

@@ -1,4 +1,4 @@
-// All the lines of one axis: n points that are s apart.
+// All the lines of one axis.
 ghost use Rattle.std.specs.Prelude.{◌≡◌, ◌-◌, ◌*◌, ◌/◌, ◌≤◌, ◌<◌, length};
 ghost use Rattle.std.specs.Float.{binary64, nan};
 ghost use Rattle.shape.specs.Fit.{solve_line, solve_lines, line_leaves};
@@ -12,88 +12,82 @@ use crate::upper::upper_numbers;
 use lines::{System, solve_checked};
 use shape::{Line, first_cell_of};
 
-// Line l; `longest` is the length of the longest axis.
-fn solve_nth<S: System>(
-    system: S,
-    s: usize,
-    lines: usize,
-    longest: usize,
-    l: usize,
-    coeffs: &mut [f64],
-    scratch: &mut [f64],
-)
-    requires { (l < lines) × LinesWithin (S.rows system).points s lines longest (length coeffs.old) (length scratch.old) }
-    ensures coeffs_after { coeffs.new ≡ solve_line nan (coefficient binary64 (S.rows system)) (S.rows system).points s l coeffs.old }
-    ensures scratch_after { scratch.new ≡ line_leaves nan (upper_number binary64 (S.rows system)) (coefficient binary64 (S.rows system)) (S.rows system).points s longest l coeffs.old scratch.old }
+// The lines of an axis: `count` of them, whose points are `stride` apart. `longest` is the length of the longest axis.
+#[derive(Clone, Copy)]
+pub struct AxisLines<S> {
+    pub system: S,
+    pub stride: usize,
+    pub count: usize,
+    pub longest: usize,
+}
+
+// Line l.
+fn solve_nth<S: System>(axis: AxisLines<S>, l: usize, coeffs: &mut [f64], scratch: &mut [f64])
+    requires { (l < axis.count) × LinesWithin (S.rows axis.system).points axis.stride axis.count axis.longest (length coeffs.old) (length scratch.old) }
+    ensures coeffs_after { coeffs.new ≡ solve_line nan (coefficient binary64 (S.rows axis.system)) (S.rows axis.system).points axis.stride l coeffs.old }
+    ensures scratch_after { scratch.new ≡ line_leaves nan
+        (upper_number binary64 (S.rows axis.system)) (coefficient binary64 (S.rows axis.system))
+        (S.rows axis.system).points axis.stride axis.longest l coeffs.old scratch.old }
 {
-    let n = system.points();
-    let base = first_cell_of(n, s, l);
+    let n = axis.system.points();
+    let base = first_cell_of(n, axis.stride, l);
     let along = Line {
         n,
-        stride: s,
+        stride: axis.stride,
         base,
-        longest,
+        longest: axis.longest,
     };
-    solve_checked(system, along, coeffs, scratch);
+    solve_checked(axis.system, along, coeffs, scratch);
 }
 
 // All the lines, in place, with the upper numbers at hand.
-fn solve_in_place<S: System>(system: S, s: usize, lines: usize, upper: &[f64], coeffs: &mut [f64])
-    requires whole { (0 < s) × (lines / s * s ≡ lines) × (lines * (S.rows system).points ≤ length coeffs.old) }
-    requires uppers { Uppers (upper_number binary64 (S.rows system)) (S.rows system).points upper.now }
-    ensures { coeffs.new ≡ solve_lines nan (coefficient binary64 (S.rows system)) (S.rows system).points s lines coeffs.old }
+fn solve_in_place<S: System>(axis: AxisLines<S>, upper: &[f64], coeffs: &mut [f64])
+    requires whole { (0 < axis.stride) × (axis.count / axis.stride * axis.stride ≡ axis.count) × (axis.count * (S.rows axis.system).points ≤ length coeffs.old) }
+    requires uppers { Uppers (upper_number binary64 (S.rows axis.system)) (S.rows axis.system).points upper.now }
+    ensures { coeffs.new ≡ solve_lines nan (coefficient binary64 (S.rows axis.system)) (S.rows axis.system).points axis.stride axis.count coeffs.old }
 {
+    let s = axis.stride;
     if s == 1 {
-        solve_ends(system, lines, upper, coeffs);
+        solve_ends(axis.system, axis.count, upper, coeffs);
     } else {
-        solve_slabs(system, s, lines / s, upper, coeffs);
+        solve_slabs(axis.system, s, axis.count / s, upper, coeffs);
     }
 }
 
 // All the lines together. What stays in scratch is what the last line, solved alone, would leave.
-fn solve_many<S: System>(
-    system: S,
-    s: usize,
-    lines: usize,
-    longest: usize,
-    coeffs: &mut [f64],
-    scratch: &mut [f64],
-)
-    requires within { (0 < lines) × LinesWithin (S.rows system).points s lines longest (length coeffs.old) (length scratch.old) }
-    requires whole { lines / s * s ≡ lines }
-    ensures coeffs_after { coeffs.new ≡ solve_lines nan (coefficient binary64 (S.rows system)) (S.rows system).points s lines coeffs.old }
-    ensures scratch_after { scratch.new ≡ line_leaves nan (upper_number binary64 (S.rows system)) (coefficient binary64 (S.rows system)) (S.rows system).points s longest (lines - 1) coeffs.old scratch.old }
+fn solve_many<S: System>(axis: AxisLines<S>, coeffs: &mut [f64], scratch: &mut [f64])
+    requires within { (0 < axis.count) × LinesWithin (S.rows axis.system).points axis.stride axis.count axis.longest (length coeffs.old) (length scratch.old) }
+    requires whole { axis.count / axis.stride * axis.stride ≡ axis.count }
+    ensures coeffs_after { coeffs.new ≡ solve_lines nan (coefficient binary64 (S.rows axis.system)) (S.rows axis.system).points axis.stride axis.count coeffs.old }
+    ensures scratch_after { scratch.new ≡ line_leaves nan
+        (upper_number binary64 (S.rows axis.system)) (coefficient binary64 (S.rows axis.system))
+        (S.rows axis.system).points axis.stride axis.longest (axis.count - 1) coeffs.old scratch.old }
 {
-    upper_numbers(system, scratch);
-    solve_in_place(system, s, lines, scratch, coeffs);
-    let n = system.points();
-    let base = first_cell_of(n, s, lines - 1);
+    upper_numbers(axis.system, scratch);
+    solve_in_place(axis, scratch, coeffs);
+    let n = axis.system.points();
+    let base = first_cell_of(n, axis.stride, axis.count - 1);
     let along = Line {
         n,
-        stride: s,
+        stride: axis.stride,
         base,
-        longest,
+        longest: axis.longest,
     };
     keep_line(along, coeffs, scratch);
 }
 
 // All the lines. A line alone has no other beside it: its upper numbers and right sides are worked out together.
-pub fn solve_lines<S: System>(
-    system: S,
-    s: usize,
-    lines: usize,
-    longest: usize,
-    coeffs: &mut [f64],
-    scratch: &mut [f64],
-)
-    requires within { (0 < lines) × LinesWithin (S.rows system).points s lines longest (length coeffs.old) (length scratch.old) }
-    requires whole { lines / s * s ≡ lines }
-    ensures coeffs_after { coeffs.new ≡ solve_lines nan (coefficient binary64 (S.rows system)) (S.rows system).points s lines coeffs.old }
-    ensures scratch_after { scratch.new ≡ line_leaves nan (upper_number binary64 (S.rows system)) (coefficient binary64 (S.rows system)) (S.rows system).points s longest (lines - 1) coeffs.old scratch.old }
+pub fn solve_lines<S: System>(axis: AxisLines<S>, coeffs: &mut [f64], scratch: &mut [f64])
+    requires within { (0 < axis.count) × LinesWithin (S.rows axis.system).points axis.stride axis.count axis.longest (length coeffs.old) (length scratch.old) }
+    requires whole { axis.count / axis.stride * axis.stride ≡ axis.count }
+    ensures coeffs_after { coeffs.new ≡ solve_lines nan (coefficient binary64 (S.rows axis.system)) (S.rows axis.system).points axis.stride axis.count coeffs.old }
+    ensures scratch_after { scratch.new ≡ line_leaves nan
+        (upper_number binary64 (S.rows axis.system)) (coefficient binary64 (S.rows axis.system))
+        (S.rows axis.system).points axis.stride axis.longest (axis.count - 1) coeffs.old scratch.old }
 {
-    if lines == 1 {
-        solve_nth(system, s, lines, longest, 0, coeffs, scratch);
+    if axis.count == 1 {
+        solve_nth(axis, 0, coeffs, scratch);
     } else {
-        solve_many(system, s, lines, longest, coeffs, scratch);
+        solve_many(axis, coeffs, scratch);
     }
 }

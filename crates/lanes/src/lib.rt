@@ -11,4 +11,4 @@ mod keep;
 mod solve;
 mod upper;
 
-pub use axis::solve_lines;
+pub use axis::{AxisLines, solve_lines};

@@ -6,6 +6,7 @@ ghost use Rattle.shape.specs.Checks.{first_refusal, length_check, scratch_check}
 ghost use Rattle.shape.specs.Refusal.{answer_number};
 
 use crate::bytes::clear;
+use multibspline::copy;
 use shape::{Axes, Refusal};
 
 // 2 for the length of the coefficients, then for that of the ledger.
@@ -60,6 +61,6 @@ pub fn start(vals: &[f64], coeffs: &mut [f64], ledger: &mut [u8])
     requires { length vals.now ≡ length coeffs.old }
     ensures { (coeffs.new ≡ vals.now) × (ledger.new ≡ replicate (length ledger.old) 0) }
 {
-    coeffs.copy_from_slice(vals);
+    copy(vals, coeffs);
     clear(ledger);
 }

@@ -6,7 +6,7 @@ use Prim.Native.Nat.{ℕ, zero, suc, ◌+◌, ◌-◌, ◌≤◌, ◌<◌}
 use native.Mathlib.Nat.{eq-or-lt_of_le}
 use native.Mathlib.Omega.{arith}
 use lib.ListN.{length, set, length-set}
-use lib.Seq.{get_or-set_same, get_or-set_other, set-set}
+use lib.Seq.{get_or-set_same, get_or-set_other, set-set, ext_get_or}
 use lib.Ieee.{Float, Format, nan}
 use Rattle.shape.specs.Cells.{put, from, on_line, write_line}
 use Rattle.shape.specs.Fit.{line_scratch}
@@ -14,6 +14,29 @@ use Rattle.shape.proofs.Cells.{put-ext, from-unique, line-apart}
 use Rattle.shape.proofs.Scratch.{put-set, scratch-upper, scratch-right, scratch-next, scratch-over, scratch-ext, scratch-solved, length-scratch}
 use Rattle.multibspline.specs.Thomas.{Row, Reduced, at, reduce, forward, back, back_at, back_step, solution}
 use Rattle.multibspline.specs.Scratch.{with_reduced, solved, put_down}
+
+-- ---- the copy of the samples: cells below i are copied
+
+pub record Same (vs l₀ l : List Float) (i : ℕ) : Type 0 where
+  pub length-l : length l ≡ length l₀
+  pub below : (k : ℕ) → k < i → at l k ≡ at vs k
+
+module _ {vs l₀ : List Float} where
+  pub same_start : Same vs l₀ l₀ 0
+  same_start = record { length-l = refl; below = (λ k h. absurd (omega (arith, h))) }
+
+  pub same_step : {l : List Float} {i : ℕ} → Same vs l₀ l i → i < length vs → length vs ≡ length l₀ → Same vs l₀ (set l i (at vs i)) (i + 1)
+  same_step {l} {i} s h len = record {
+    length-l = length-set l i _ ∙ s.length-l;
+    below = (λ k p.
+        ⊎_elim
+        (λ (here : k ≡ i). rw here (get_or-set_same l i _ nan (omega (arith, s.length-l))))
+        (λ (less : k < i). get_or-set_other l i k _ nan (λ w. omega arith) ∙ s.below k less)
+        (eq-or-lt_of_le (omega arith)));
+  }
+
+  pub same-done : {l : List Float} {i : ℕ} → Same vs l₀ l i → length vs ≤ i → length vs ≡ length l₀ → l ≡ vs
+  same-done {l} s h len = ext_get_or nan l vs (s.length-l ∙ sym len) (λ k p. s.below k (omega (arith, s.length-l)))
 
 -- ---- forward elimination: the rows below i are reduced, and r is the last of them. s₀ holds row 0, as s did not
 

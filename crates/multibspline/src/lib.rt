@@ -10,6 +10,6 @@ mod saturation;
 
 pub use back::back_substitute;
 pub use checks::check_line;
-pub use entries::{entry, place};
+pub use entries::{copy, entry, place};
 pub use rows::{Left, Reduced, eliminate, keep_row};
 pub use saturation::Saturation;

@@ -1,16 +1,11 @@
 // Begin and the line call on a rectilinear grid: `grid` has the knots of each axis, axis after axis.
-ghost use Rattle.std.specs.Prelude.{◌≡◌, ◌<◌, length, take};
-ghost use Rattle.std.specs.Float.{binary64, nan};
-ghost use Rattle.shape.specs.Shape.{points};
-ghost use Rattle.shape.specs.Cells.{line, write_line};
+ghost use Rattle.std.specs.Prelude.{◌≡◌, length, take};
+ghost use Rattle.std.specs.Float.{binary64};
 ghost use Rattle.shape.specs.Checks.{first_refusal};
-ghost use Rattle.shape.specs.Fit.{line_scratch};
-ghost use Rattle.shape.specs.Line.{LineFits};
 ghost use Rattle.shape.specs.Axes.{AxesOnce};
 ghost use Rattle.shape.specs.Refusal.{answer_number};
 ghost use Rattle.knots.specs.Joined.{total};
 ghost use Rattle.knots.specs.Checks.{grid_check, knots_check};
-ghost use Rattle.rectilinear.specs.Fit.{solve, upper};
 ghost use Rattle.ledger.specs.Ready.{ready_checks, call_ready_checks};
 ghost use Rattle.book.specs.LineCall.{begin_answer, call_of, state_of};
 ghost use Rattle.stepwise.specs.Rectilinear.{RectilinearBegun, RectilinearLineCalled};

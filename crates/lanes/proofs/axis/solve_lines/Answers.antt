@@ -7,12 +7,12 @@ use Rattle.lanes.proofs.axis.solve_lines.Goals as goal
 pub solve_nth-requires : goal.solve_nth-requires
 solve_nth-requires g c = (let pos = c.requires.within.0 in omega arith, c.requires.within.1)
 
-pub returns-then-lines-eq1 : goal.returns-then-lines-eq1
-returns-then-lines-eq1 g c =
-    let one = c.if-lines-eq1.true in
+pub returns-then-axis-eq1 : goal.returns-then-axis-eq1
+returns-then-axis-eq1 g c =
+    let one = c.if-axis-eq1.true in
     let a = c.args in
-    let s = g.S.System.rows a.system in
+    let s = g.S.System.rows a.axis.system in
     record {
-      coeffs_after = lone-coefs (upper_number binary64 s) (coefficient binary64 s) s.points a.s a.lines a.longest a.coeffs.now a.scratch.now one _ c.solve_nth.ensures.coeffs_after;
-      scratch_after = lone-leaves (upper_number binary64 s) (coefficient binary64 s) s.points a.s a.lines a.longest a.coeffs.now a.scratch.now one _ c.solve_nth.ensures.scratch_after;
+      coeffs_after = lone-coefs (upper_number binary64 s) (coefficient binary64 s) s.points a.axis.stride a.axis.count a.axis.longest a.coeffs.now a.scratch.now one _ c.solve_nth.ensures.coeffs_after;
+      scratch_after = lone-leaves (upper_number binary64 s) (coefficient binary64 s) s.points a.axis.stride a.axis.count a.axis.longest a.coeffs.now a.scratch.now one _ c.solve_nth.ensures.scratch_after;
     }

@@ -11,7 +11,7 @@ use Rattle.lanes.proofs.axis.solve_many.Goals as goal
 pub solve_in_place-requires : goal.solve_in_place-requires
 solve_in_place-requires g c =
     let a = c.args in
-    let s = g.S.System.rows a.system in
+    let s = g.S.System.rows a.axis.system in
     let pos = c.requires.within.0 in
     let w = c.requires.within.1 in
     record {
@@ -26,16 +26,16 @@ first_cell_of-base-requires g c =
 pub keep_line-requires : goal.keep_line-requires
 keep_line-requires g c =
     let a = c.args in
-    let s = g.S.System.rows a.system in
+    let s = g.S.System.rows a.axis.system in
     let pos = c.requires.within.0 in
-    let room = keep-room (coefficient binary64 s) s.points a.s a.lines a.longest _ _ a.coeffs.now a.scratch.now _ _ (upper_number binary64 s zero_samples) c.requires.within.1
+    let room = keep-room (coefficient binary64 s) s.points a.axis.stride a.axis.count a.axis.longest _ _ a.coeffs.now a.scratch.now _ _ (upper_number binary64 s zero_samples) c.requires.within.1
     (rw c.points-n.ensures at c.first_cell_of-base.ensures) c.solve_in_place.ensures c.upper_numbers.ensures (omega arith) in
     record { inside = rw c.points-n.ensures room.0; room = rw c.points-n.ensures room.1 }
 
 pub returns-clause-scratch_after : goal.returns-clause-scratch_after
 returns-clause-scratch_after g c =
     let a = c.args in
-    let s = g.S.System.rows a.system in
-    axis-leaves (upper_number binary64 s) (coefficient binary64 s) s.points a.s a.lines a.longest a.coeffs.now a.scratch.now c.requires.within.1 c.requires.within.0
-    (looks-coefficient binary64 s (g.met.S.System.four_points a.system)) _ _ _ _ (upper-same binary64 s zero_samples)
+    let s = g.S.System.rows a.axis.system in
+    axis-leaves (upper_number binary64 s) (coefficient binary64 s) s.points a.axis.stride a.axis.count a.axis.longest a.coeffs.now a.scratch.now c.requires.within.1 c.requires.within.0
+    (looks-coefficient binary64 s (g.met.S.System.four_points a.axis.system)) _ _ _ _ (upper-same binary64 s zero_samples)
     (rw c.points-n.ensures at c.first_cell_of-base.ensures) c.upper_numbers.ensures c.solve_in_place.ensures (rw c.points-n.ensures at c.keep_line.ensures)
