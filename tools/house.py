@@ -69,8 +69,11 @@ def past_generics(code, start):
 
 
 def body_start(code, after):
-    """The place of the body's brace, past the result and the clauses, each of which may have a name."""
+    """The place of the body's brace, past the result and the clauses, each of which may have a name; None where a trait's function
+    has no body."""
     while True:
+        if re.match(r"[^{]*?;(?!\s*\d+\])", re.sub(CLAUSE + r"\{", "{", code[after:])):
+            return None
         found = re.compile(rf"({CLAUSE})?\{{").search(code, after)
         brace = found.end() - 1
         if not found[1]:
@@ -99,6 +102,8 @@ def functions_in(path):
         start = past_generics(code, found.end())
         end = closing(code, start)
         brace = body_start(code, end)
+        if brace is None:
+            continue
         body = text[brace + 1:closing(code, brace)]
         yield Function(path.parts[-3], path.relative_to(ROOT), code.count("\n", 0, found.start(2)) + 1, found[2],
                        owner_at(code, found.start()), bool(found[1]), split(code[start + 1:end]),

@@ -1,1 +1,2 @@
 pub mod OfQuery
+pub mod OfBlock

@@ -1,42 +1,34 @@
 -- What the sums of a block are, in short names for the contracts. Assumes nothing.
 --     strides          an entry for each axis, axis 0 first
---     rows, cap        the rows of weights of a block that can hold `cap` queries, and behind those of four axes the slopes
---     firsts           the first coefficient that counts of each query
-use Rattle.std.specs.Prelude.{◌≡◌, List, ℕ, ◌+◌, ◌-◌, ◌*◌, ◌≤◌, length, get_or, set, drop, Float}
+--     spots            the queries
+use Rattle.std.specs.Prelude.{◌≡◌, List, ℕ, ◌+◌, ◌-◌, ◌*◌, ◌≤◌, ◌<◌, length, get_or, set, Float}
 use Rattle.std.specs.Float.{Format}
 use Rattle.shape.specs.Cells.{put}
 use Rattle.interp_math.specs.Sum.{summed, gradient_part}
 use Rattle.evaluation.specs.Batch.{written}
-use Rattle.evaluation.specs.Block.{weights_of, Firsts, reach}
+use Rattle.evaluation.specs.Block.{reach}
+use Rattle.evaluation.specs.Stages.{no_spot}
+use Rattle.evaluation.specs.declared.stages.Spot.{Spot}
 
--- the last axis has stride 1
-abbrev pub LastByOne : ℕ → List ℕ → Type 0
-LastByOne count strides = get_or strides (count - 1) 0 ≡ 1
+-- there are one to four axes, the last has stride 1, and from the first coefficient of each query on all that count are there
+pub record Summable (count : ℕ) (strides : List ℕ) (coefs : List Float) (first : ℕ) : Type 0 where
+  pub some : 1 ≤ count
+  pub few : count ≤ 4
+  pub last : get_or strides (count - 1) 0 ≡ 1
+  pub within : first + reach strides < length coefs
 
--- there is a row for each of so many axes and each query
-abbrev pub RowsFit : ℕ → ℕ → List Float → Type 0
-RowsFit cap axes rows = 4 * (cap * axes) ≤ length rows
+module _ (f : Format) (coefs : List Float) (strides : List ℕ) (count : ℕ) (spots : List Spot) where
+  -- the value of query k, and part j of its gradient
+  abbrev pub value_of : ℕ → Float
+  value_of k = let s = get_or spots k no_spot in summed f coefs strides s.weights count s.first
 
--- from the first coefficient that counts of each of m queries on, all that count are there
-abbrev pub FirstsIn : List ℕ → ℕ → List ℕ → List Float → Type 0
-FirstsIn firsts m strides coefs = Firsts firsts m (reach strides) (length coefs)
+  abbrev pub part_of : ℕ → ℕ → Float
+  part_of k j = let s = get_or spots k no_spot in gradient_part f coefs strides s.weights s.slopes count s.first j
 
--- the rows of slopes
-abbrev pub behind : ℕ → List Float → List Float
-behind cap rows = drop (16 * cap) rows
+  -- the output with the values of m queries written, from entry `from` on
+  abbrev pub values_put : ℕ → ℕ → List Float → List Float
+  values_put from m out = written (λ k o. set o (from + k) (value_of k)) m out
 
-module _ (f : Format) (coefs : List Float) (strides : List ℕ) (count : ℕ) (rows : List Float) (cap : ℕ) where
-  -- the value of query k from its first coefficient on, and part j of its gradient
-  abbrev pub value_of : ℕ → ℕ → Float
-  value_of first k = summed f coefs strides (weights_of rows cap k) count first
-
-  abbrev pub part_of : ℕ → ℕ → ℕ → Float
-  part_of first k j = gradient_part f coefs strides (weights_of rows cap k) (weights_of (behind cap rows) cap k) count first j
-
-  -- the output with m values written, from entry `from` on
-  abbrev pub values_put : List ℕ → ℕ → ℕ → List Float → List Float
-  values_put firsts from m out = written (λ k o. set o (from + k) (value_of (get_or firsts k 0) k)) m out
-
-  -- with m gradients written, from entry `from` of n on: part j of entry i stands at j n + i
-  abbrev pub gradients_put : List ℕ → ℕ → ℕ → ℕ → List Float → List Float
-  gradients_put firsts n from m out = written (λ k o. put (λ j. j * n + (from + k)) (λ j. part_of (get_or firsts k 0) k j) count o) m out
+  -- with their gradients, from entry `from` of n on: part j of entry i stands at j n + i
+  abbrev pub gradients_put : ℕ → ℕ → ℕ → List Float → List Float
+  gradients_put n from m out = written (λ k o. put (λ j. j * n + (from + k)) (part_of k) count o) m out

@@ -1,158 +1,78 @@
-// The gradients of a block of queries, from the first coefficient that counts of each and its rows, the slopes behind the
-// weights of four axes. The parts share the sums over the axes before theirs.
-ghost use Rattle.std.specs.Prelude.{◌≡◌, ◌+◌, ◌*◌, ◌≤◌, ◌<◌, length};
-ghost use Rattle.std.specs.Float.{binary64};
-ghost use Rattle.shape.specs.Cells.{put};
-ghost use Rattle.evaluation.specs.Axes.{parts};
-ghost use Rattle.evaluation.specs.Block.{reach};
-ghost use Rattle.block_sums.specs.Sums.{LastByOne, RowsFit, FirstsIn, behind, part_of, values_put, gradients_put};
+// The gradients of a block of queries, from the first coefficient that counts of each, its weights and its slopes. The parts share
+// the sums over the axes before theirs.
+ghost use Rattle.std.specs.Prelude.{◌≡◌, ℕ, suc, ◌+◌, ◌*◌, ◌≤◌, ◌<◌, length, get_or};
+ghost use Rattle.std.specs.Float.{binary64, nan};
+ghost use Rattle.interp_math.specs.Sum.{gradient_part};
+ghost use Rattle.evaluation.specs.Stages.{no_spot};
+ghost use Rattle.block_sums.specs.Sums.{Summable, gradients_put};
 
-use crate::rows::rows_of;
-use crate::values::put_values;
-use evaluation::{Span, put_parts};
-use interp_math::{dot4, parts_1, parts_2, parts_3};
+use evaluation::{Spot, put_parts};
+use interp_math::{NoAxis, OneMore, Sums, dot4};
 
-// The gradient of query k over two axes: its parts, zeros for the axes not in use.
-fn gradient_2(
+// Over the axes of S and one more, the last: the parts, zeros for the axes not in use.
+#[inline(always)]
+fn over<S: Sums>(
     strides: &[usize; 4],
     coeffs: &[f64],
-    rows: &[f64],
-    cap: usize,
-    k: usize,
+    weights: &[[f64; 4]; 4],
+    slopes: &[[f64; 4]; 4],
     first: usize,
 ) -> [f64; 4]
-    requires { LastByOne 2 strides.now × (k < cap) × RowsFit cap 6 rows.now × (first + reach strides.now < length coeffs.now) }
-    ensures { result ≡ parts 2 (part_of binary64 coeffs.now strides.now 2 rows.now cap first k) }
+    requires { (S.axes < 4) × Summable (suc S.axes) strides.now coeffs.now first }
+    ensures four { length weights.now ≡ 4 }
+    ensures parts { (j : ℕ) → j < suc S.axes → get_or result j nan ≡ gradient_part binary64 coeffs.now strides.now weights.now slopes.now (suc S.axes) first j }
 {
-    let w = rows_of(rows, 2, cap, k);
-    let d = rows_of(rows, 2, cap, 4 * cap + k);
-    let sums = parts_1(coeffs, strides, &w, &d, first);
-    [dot4(w[1], sums[0]), dot4(d[1], sums[1]), 0.0, 0.0]
+    let a = S::axes();
+    let rows = S::parts(coeffs, strides, weights, slopes, first);
+    let mut parts = [0.0f64; 4];
+    for j in 0..a {
+        parts[j] = dot4(weights[a], rows[j]);
+    }
+    parts[a] = dot4(slopes[a], rows[a]);
+    parts
 }
 
-// Over three axes.
-fn gradient_3(
+// The gradients of the queries of a block over these axes, from entry `from` of n on: part j of entry i at j n + i.
+fn put_over<S: Sums>(
     strides: &[usize; 4],
     coeffs: &[f64],
-    rows: &[f64],
-    cap: usize,
-    k: usize,
-    first: usize,
-) -> [f64; 4]
-    requires { LastByOne 3 strides.now × (k < cap) × RowsFit cap 7 rows.now × (first + reach strides.now < length coeffs.now) }
-    ensures { result ≡ parts 3 (part_of binary64 coeffs.now strides.now 3 rows.now cap first k) }
-{
-    let w = rows_of(rows, 3, cap, k);
-    let d = rows_of(rows, 3, cap, 4 * cap + k);
-    let sums = parts_2(coeffs, strides, &w, &d, first);
-    [
-        dot4(w[2], sums[0]),
-        dot4(w[2], sums[1]),
-        dot4(d[2], sums[2]),
-        0.0,
-    ]
-}
-
-// Over four axes.
-fn gradient_4(
-    strides: &[usize; 4],
-    coeffs: &[f64],
-    rows: &[f64],
-    cap: usize,
-    k: usize,
-    first: usize,
-) -> [f64; 4]
-    requires { LastByOne 4 strides.now × (k < cap) × RowsFit cap 8 rows.now × (first + reach strides.now < length coeffs.now) }
-    ensures { result ≡ parts 4 (part_of binary64 coeffs.now strides.now 4 rows.now cap first k) }
-{
-    let w = rows_of(rows, 4, cap, k);
-    let d = rows_of(rows, 4, cap, 4 * cap + k);
-    let sums = parts_3(coeffs, strides, &w, &d, first);
-    [
-        dot4(w[3], sums[0]),
-        dot4(w[3], sums[1]),
-        dot4(w[3], sums[2]),
-        dot4(d[3], sums[3]),
-    ]
-}
-
-// The gradient of query k of the block, over two axes or more, at its entry.
-fn put_gradient(
-    count: usize,
-    strides: &[usize; 4],
-    coeffs: &[f64],
-    s: Span,
-    k: usize,
-    first: usize,
-    rows: &[f64],
+    spots: &[Spot],
+    n: usize,
+    from: usize,
     out: &mut [f64],
 )
-    requires le_count { (2 ≤ count) × (count ≤ 4) × LastByOne count strides.now × (k < s.cap) × (s.from + k < s.n) × (count * s.n ≤ length out.old) }
-    requires rows_fit { RowsFit s.cap (4 + count) rows.now × (first + reach strides.now < length coeffs.now) }
-    ensures { out.new ≡ put (λ j. j * s.n + (s.from + k)) (part_of binary64 coeffs.now strides.now count rows.now s.cap first k) count out.old }
-{
-    if count == 2 {
-        let parts = gradient_2(strides, coeffs, rows, s.cap, k, first);
-        put_parts(parts, 2, s.n, s.from + k, out);
-        return;
-    }
-    if count == 3 {
-        let parts = gradient_3(strides, coeffs, rows, s.cap, k, first);
-        put_parts(parts, 3, s.n, s.from + k, out);
-        return;
-    }
-    let parts = gradient_4(strides, coeffs, rows, s.cap, k, first);
-    put_parts(parts, 4, s.n, s.from + k, out);
-}
-
-// The gradients of the first `good` queries over two axes or more: part j of entry i at j n + i.
-pub fn sum_gradients(
-    count: usize,
-    strides: &[usize; 4],
-    coeffs: &[f64],
-    s: Span,
-    good: usize,
-    spots: &[usize],
-    rows: &[f64],
-    out: &mut [f64],
-)
-    requires le_count { (2 ≤ count) × (count ≤ 4) × LastByOne count strides.now × (good ≤ s.cap) × (s.from + good ≤ s.n) × (count * s.n ≤ length out.old) × (good ≤ length spots.now) }
-    requires rows_fit { RowsFit s.cap (4 + count) rows.now × FirstsIn spots.now good strides.now coeffs.now }
-    ensures { out.new ≡ gradients_put binary64 coeffs.now strides.now count rows.now s.cap spots.now s.n s.from good out.old }
+    requires room { (S.axes < 4) × (from + length spots.now ≤ n) × (suc S.axes * n ≤ length out.old) }
+    requires summable { (k : ℕ) → k < length spots.now → Summable (suc S.axes) strides.now coeffs.now (get_or spots.now k no_spot).first }
+    ensures four { (k : ℕ) → k < length spots.now → length (get_or spots.now k no_spot).weights ≡ 4 }
+    ensures put { out.new ≡ gradients_put binary64 coeffs.now strides.now (suc S.axes) spots.now n from (length spots.now) out.old }
 {
     let strides = *strides;
-    let mut k: usize = 0;
-    while k < good {
-        put_gradient(count, &strides, coeffs, s, k, spots[k], rows, out);
-        k += 1;
+    let count = S::axes() + 1;
+    for (k, spot) in spots.iter().enumerate() {
+        let parts = over::<S>(&strides, coeffs, &spot.weights, &spot.slopes, spot.first);
+        put_parts(parts, count, n, from + k, out);
     }
 }
 
-// Over one axis: the slopes take the place of the weights.
-pub fn sum_slopes(
+// Over so many axes. Each number of axes has a loop of its own, so that the compiler knows how many parts there are.
+pub fn put_gradients(
     count: usize,
     strides: &[usize; 4],
     coeffs: &[f64],
-    s: Span,
-    good: usize,
-    spots: &[usize],
-    rows: &[f64],
+    spots: &[Spot],
+    n: usize,
+    from: usize,
     out: &mut [f64],
 )
-    requires le_count { (1 ≤ count) × (count ≤ 4) × LastByOne count strides.now × (good ≤ s.cap) × (s.from + good ≤ length out.old) × (good ≤ length spots.now) }
-    requires rows_fit { RowsFit s.cap (4 + count) rows.now × FirstsIn spots.now good strides.now coeffs.now }
-    ensures { out.new ≡ values_put binary64 coeffs.now strides.now count (behind s.cap rows.now) s.cap spots.now s.from good out.old }
+    requires room { (1 ≤ count) × (count ≤ 4) × (from + length spots.now ≤ n) × (count * n ≤ length out.old) }
+    requires summable { (k : ℕ) → k < length spots.now → Summable count strides.now coeffs.now (get_or spots.now k no_spot).first }
+    ensures four { (k : ℕ) → k < length spots.now → length (get_or spots.now k no_spot).weights ≡ 4 }
+    ensures put { out.new ≡ gradients_put binary64 coeffs.now strides.now count spots.now n from (length spots.now) out.old }
 {
-    let behind = 16 * s.cap;
-    put_values(
-        count,
-        strides,
-        coeffs,
-        spots,
-        &rows[behind..],
-        s.cap,
-        s.from,
-        good,
-        out,
-    );
+    match count {
+        1 => put_over::<NoAxis>(strides, coeffs, spots, n, from, out),
+        2 => put_over::<OneMore<NoAxis>>(strides, coeffs, spots, n, from, out),
+        3 => put_over::<OneMore<OneMore<NoAxis>>>(strides, coeffs, spots, n, from, out),
+        _ => put_over::<OneMore<OneMore<OneMore<NoAxis>>>>(strides, coeffs, spots, n, from, out),
+    }
 }

@@ -1,10 +1,14 @@
-// The sums over the coefficients that count, for the queries of a block: values and gradients on either grid, by the rows of
-// weights and slopes that stand in lent buffers.
+// Values and gradients of a map, on either grid, at a block of queries: the sums over the coefficients that count, by the weights and
+// slopes of the queries.
 #![tactic(auto)]
 
+mod batch;
+mod block;
 mod gradients;
-mod rows;
+mod single;
 mod values;
 
-pub use gradients::{sum_gradients, sum_slopes};
-pub use values::put_values;
+pub use batch::{gradient_batch, value_batch};
+pub use block::{gradients_block, values_block};
+pub use single::{single_gradient, single_value};
+pub use values::value;

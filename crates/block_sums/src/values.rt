@@ -1,66 +1,62 @@
-// The values of a block of queries, from the first coefficient that counts of each and its rows of weights. The last axis has
-// stride 1: the sums over the axes before it are worked out side by side.
-ghost use Rattle.std.specs.Prelude.{◌≡◌, ◌+◌, ◌*◌, ◌≤◌, ◌<◌, length};
+// The values of a block of queries, from the first coefficient that counts of each and its weights. The last axis has stride 1: the
+// sums over the axes before it are worked out side by side.
+ghost use Rattle.std.specs.Prelude.{◌≡◌, ℕ, suc, ◌+◌, ◌≤◌, ◌<◌, length, get_or};
 ghost use Rattle.std.specs.Float.{binary64};
+ghost use Rattle.interp_math.specs.Sum.{summed};
 ghost use Rattle.evaluation.specs.Block.{reach};
-ghost use Rattle.block_sums.specs.Sums.{LastByOne, RowsFit, FirstsIn, value_of, values_put};
+ghost use Rattle.evaluation.specs.Stages.{no_spot};
+ghost use Rattle.block_sums.specs.Sums.{Summable, values_put};
 
-use crate::rows::rows_of;
-use interp_math::{dot4, neighbours, sums_1, sums_2, sums_3, turn};
+use evaluation::Spot;
+use interp_math::{NoAxis, OneMore, Sums, dot4, turn};
 
-// The value of query k. Each number of axes has its own line, so that the compiler knows how many there are and keeps the rows
-// in registers.
-fn value(
+// Over the axes of S and one more, the last.
+#[inline(always)]
+fn over<S: Sums>(strides: &[usize; 4], coeffs: &[f64], weights: &[[f64; 4]; 4], first: usize) -> f64
+    requires { (S.axes < 4) × Summable (suc S.axes) strides.now coeffs.now first }
+    ensures { result ≡ summed binary64 coeffs.now strides.now weights.now (suc S.axes) first }
+{
+    let turned = turn(weights);
+    dot4(weights[S::axes()], S::sums(coeffs, strides, &turned, first))
+}
+
+// The value of a query. Each number of axes is a type, so that the compiler knows how many there are and keeps the rows in registers;
+// it is compiled into the loop over the queries.
+#[inline(always)]
+pub fn value(
     count: usize,
     strides: &[usize; 4],
     coeffs: &[f64],
-    rows: &[f64],
-    cap: usize,
-    k: usize,
+    weights: &[[f64; 4]; 4],
     first: usize,
 ) -> f64
-    requires { (1 ≤ count) × (count ≤ 4) × LastByOne count strides.now × (k < cap) × RowsFit cap count rows.now × (first + reach strides.now < length coeffs.now) }
-    ensures { result ≡ value_of binary64 coeffs.now strides.now count rows.now cap first k }
+    requires { Summable count strides.now coeffs.now first }
+    ensures { result ≡ summed binary64 coeffs.now strides.now weights.now count first }
 {
-    if count == 1 {
-        let w = rows_of(rows, 1, cap, k);
-        return dot4(w[0], neighbours(coeffs, first));
+    match count {
+        1 => over::<NoAxis>(strides, coeffs, weights, first),
+        2 => over::<OneMore<NoAxis>>(strides, coeffs, weights, first),
+        3 => over::<OneMore<OneMore<NoAxis>>>(strides, coeffs, weights, first),
+        _ => over::<OneMore<OneMore<OneMore<NoAxis>>>>(strides, coeffs, weights, first),
     }
-    if count == 2 {
-        let w = rows_of(rows, 2, cap, k);
-        let t = turn(&w);
-        return dot4(w[1], sums_1(coeffs, strides, &t, first));
-    }
-    if count == 3 {
-        let w = rows_of(rows, 3, cap, k);
-        let t = turn(&w);
-        return dot4(w[2], sums_2(coeffs, strides, &t, first));
-    }
-    let w = rows_of(rows, 4, cap, k);
-    let t = turn(&w);
-    dot4(w[3], sums_3(coeffs, strides, &t, first))
 }
 
-// The values of m queries of a block, from entry `from` on.
+// The values of the queries of a block, from entry `from` on.
 pub fn put_values(
     count: usize,
     strides: &[usize; 4],
     coeffs: &[f64],
-    firsts: &[usize],
-    rows: &[f64],
-    cap: usize,
+    spots: &[Spot],
     from: usize,
-    m: usize,
     out: &mut [f64],
 )
-    requires { (1 ≤ count) × (count ≤ 4) × LastByOne count strides.now × (m ≤ cap) × (m ≤ length firsts.now) × RowsFit cap count rows.now × (from + m ≤ length out.old) × FirstsIn firsts.now m strides.now coeffs.now }
-    ensures { out.new ≡ values_put binary64 coeffs.now strides.now count rows.now cap firsts.now from m out.old }
+    requires room { from + length spots.now ≤ length out.old }
+    requires summable { (k : ℕ) → k < length spots.now → Summable count strides.now coeffs.now (get_or spots.now k no_spot).first }
+    ensures { out.new ≡ values_put binary64 coeffs.now strides.now count spots.now from (length spots.now) out.old }
 {
     // a copy, which no write to `out` can change, so that the compiler need not read the strides again for each query
     let strides = *strides;
-    let mut k: usize = 0;
-    while k < m {
-        out[from + k] = value(count, &strides, coeffs, rows, cap, k, firsts[k]);
-        k += 1;
+    for (k, spot) in spots.iter().enumerate() {
+        out[from + k] = value(count, &strides, coeffs, &spot.weights, spot.first);
     }
 }

@@ -23,8 +23,8 @@ use Rattle.multibspline.specs.declared.saturation.Saturation.TheVariants.{None, 
 use Rattle.regular_weights.specs.Place as Regular
 use Rattle.regular_weights.specs.Place.{loc_of, past_origin}
 use Rattle.regular_weights.specs.Weights.{cubic_bspline_weights, cubic_bspline_weight_derivatives, low_linearized_boundary_weights, low_linearized_boundary_weight_derivatives, fold_low, interp_weights, span_derivatives, scaled, interp_weight_derivatives}
+use Rattle.std.proofs.Common.{Option}
 use Rattle.regular_weights.specs.declared.place.Loc as Cells
-use Rattle.regular_weights.specs.declared.place.Loc.TheVariants as Cell
 use Rattle.regular.specs.Fit.{regular_fit}
 use Rattle.regular_blocks.specs.Map.{RegularMap}
 use Rattle.evaluation.specs.ByAxis.{part_at}
@@ -36,7 +36,7 @@ use Rattle.knots.specs.declared.place.Loc as Span
 
 -- a row of the table: a place on a regular axis, one on a rectilinear axis, counts, floats, or whether a line is due
 pub data Figure : Type 0 where
-  cell : Cells.Loc → Figure
+  cell : Option Cells.Loc → Figure
   span : Span.Loc → Figure
   counts : List ℕ → Figure
   floats : List Float → Figure
@@ -95,11 +95,11 @@ table =
 
 pub points :
     table
-    ≡ cell (Cell.At OutsideLow 0)
-    ∷ cell (Cell.At InsideLow 0)
-    ∷ cell (Cell.At None 0)
-    ∷ cell (Cell.At InsideHigh 1)
-    ∷ cell (Cell.At OutsideHigh 1)
+    ≡ cell (Regular.at OutsideLow 0)
+    ∷ cell (Regular.at InsideLow 0)
+    ∷ cell (Regular.at None 0)
+    ∷ cell (Regular.at InsideHigh 1)
+    ∷ cell (Regular.at OutsideHigh 1)
     ∷ span (loc OutsideLow 0 0)
     ∷ span (loc None 2 1)
     ∷ span (loc InsideHigh 3 1)

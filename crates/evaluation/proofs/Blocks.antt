@@ -1,4 +1,4 @@
--- The rows of a block. Assumes nothing.
+-- The gradient over one axis, and the loop over the entries of a block. Assumes nothing.
 use mathlib.Core.Path.{◌≡◌, refl, sym, ap, ◌∙◌}
 use mathlib.Core.Logic.{◌≢◌}
 use mathlib.Core.List.{List, []}
@@ -12,51 +12,13 @@ use Rattle.shape.specs.Cells.{put, from}
 use Rattle.shape.proofs.Cells.{length-put, from_in, put_other}
 use Rattle.interp_math.specs.Sum.{summed, gradient_part}
 use Rattle.interp_math.proofs.Four.{four}
-use Rattle.interp_math.proofs.Sums.{summed-ext}
+use Rattle.interp_math.proofs.Summed.{summed-ext}
 use Rattle.evaluation.specs.Axes.{rows}
 use Rattle.evaluation.specs.Granted.{RowsOn}
 use Rattle.evaluation.specs.Batch.{written}
-use Rattle.evaluation.specs.Block.{row_at, with_row, weights_of}
-
--- ---- one row replaced
-
-module _ (rows : List Float) (j : ℕ) (row : List Float) where
-  pub row-length : length (with_row rows j row) ≡ length rows
-  unfolding with_row
-  row-length = length-put (from (4 * j)) (λ p. get_or row p nan) 4 rows
-
-  -- it is the row that was put
-  pub row_same : length row ≡ 4 → 4 * j + 4 ≤ length rows → row_at (with_row rows j row) j ≡ row
-  unfolding row_at with_row
-  row_same e fits =
-      let cell : (p : ℕ) (q : ℕ) → p < 4 → q ≡ 4 * j + p → get_or (put (from (4 * j)) (λ p. get_or row p nan) 4 rows) q nan ≡ get_or row p nan = λ p q h same. rw same (from_in (4 * j) (λ p. get_or row p nan) 4 rows nan p h fits) in
-      rw (cell 0 (4 * j) (omega arith) (omega arith), cell 1 (4 * j + 1) (omega arith) refl, cell 2 (4 * j + 2) (omega arith) refl, cell 3 (4 * j + 3) (omega arith) refl) (sym (four nan row e))
-
-  -- every other row is as it was
-  pub row_other : (k : ℕ) → k ≢ j → row_at (with_row rows j row) k ≡ row_at rows k
-  unfolding row_at with_row
-  row_other k other =
-      let cell : (q : ℕ) → ((p : ℕ) → p < 4 → q ≢ 4 * j + p) → get_or (put (from (4 * j)) (λ p. get_or row p nan) 4 rows) q nan ≡ get_or rows q nan = λ q away. put_other (from (4 * j)) (λ p. get_or row p nan) 4 rows q nan away in
-      rw (cell (4 * k) (λ p h z. omega arith), cell (4 * k + 1) (λ p h z. omega arith), cell (4 * k + 2) (λ p h z. omega arith), cell (4 * k + 3) (λ p h z. omega arith))
-
--- ---- the rows of one query, one an axis
-
-pub weights-on : {count : ℕ} {row : ℕ → List Float} (rows : List Float) (cap k : ℕ) → count ≤ 4 → ((a : ℕ) → a < count → row_at rows (cap * a + k) ≡ row a) → RowsOn count row (weights_of rows cap k)
-unfolding weights_of
-weights-on {count} {row} rows cap k few each = record { four = refl; at = at }
-  where
-    here : (a j : ℕ) → a < count → j ≡ cap * a + k → row_at rows j ≡ row a
-    here a j h e = rw e (each a h)
-
-    at : (a : ℕ) → a < count → get_or (weights_of rows cap k) a [] ≡ row a
-    at zero h = here 0 k h (omega arith)
-    at (suc zero) h = here 1 (cap + k) h (omega arith)
-    at (suc (suc zero)) h = here 2 (2 * cap + k) h (omega arith)
-    at (suc (suc (suc zero))) h = here 3 (3 * cap + k) h (omega arith)
-    at (suc (suc (suc (suc a)))) h = absurd (let q : ⊥ = omega arith in q)
 
 -- over one axis, the part of the gradient is the sum by the slopes
-slope-alone : (f : Format) (coefs : List Float) (strides : List ℕ) (weights slopes sums : List (List Float)) (first : ℕ) → 0 < length weights → get_or sums 0 [] ≡ get_or slopes 0 []
+pub slope-alone : (f : Format) (coefs : List Float) (strides : List ℕ) (weights slopes sums : List (List Float)) (first : ℕ) → 0 < length weights → get_or sums 0 [] ≡ get_or slopes 0 []
     → summed f coefs strides sums 1 first ≡ gradient_part f coefs strides weights slopes 1 first 0
 unfolding gradient_part
 slope-alone f coefs strides weights slopes sums first some e =

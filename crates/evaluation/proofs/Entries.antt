@@ -13,7 +13,7 @@ use Rattle.shape.specs.Below.{sum_below}
 use Rattle.shape.specs.Shape.{stride}
 use Rattle.shape.proofs.Lengths.{product-end}
 use Rattle.interp_math.specs.Sum.{summed, gradient_part}
-use Rattle.interp_math.proofs.Sums.{summed-ext}
+use Rattle.interp_math.proofs.Summed.{summed-ext}
 use Rattle.evaluation.specs.Axes.{per_axis, query, rows, zeros, strides}
 use Rattle.evaluation.specs.Granted.{Ready, Reaches, RowsOn}
 

@@ -8,11 +8,9 @@ pub mod Builds
 pub mod Placing
 pub mod Blocks
 pub mod Striding
-pub mod Rows
-pub mod Weighed
 pub mod Singles
 pub mod InUse
 pub mod ByAxis
 pub mod OneQuery
-pub mod Stages
 pub mod Same
+pub mod Looking

@@ -14,7 +14,7 @@ use Rattle.shape.proofs.Lengths.{product-end}
 use Rattle.shape.proofs.BaseIndex.{from-axis}
 use Rattle.shape.proofs.Accepted.{points-are, axes-are}
 use Rattle.evaluation.specs.Axes.{first_over}
-use Rattle.evaluation.specs.Granted.{Reaches}
+use Rattle.evaluation.specs.Granted.{Reaches, Below}
 
 -- ---- the first of the coefficients that count, axis by axis
 
@@ -29,18 +29,13 @@ module _ (dims : List ℕ) (origin : ℕ → ℕ) where
 
 -- ---- it stays within the map
 
--- i, the sum of origin times stride over the axes below a, with three of each stride and all cells from axis a on, is within
--- the map
-abbrev pub Below : ℕ → List ℕ → ℕ → ℕ → Type 0
-Below count lens a i = i + 3 * sum_below (stride (take count lens)) a + product (drop a (take count lens)) ≤ size (take count lens)
-
 module _ (count : ℕ) (lens : List ℕ) (four : length lens ≡ 4) (u : Usable count lens) where
-  below-start : Below count lens 0 0
+  pub below-start : Below count lens 0 0
   unfolding sum_below
   below-start = omega arith
 
   -- one axis more: an origin that leaves room for four points
-  below_next : (a i origin : ℕ) → a < count → Below count lens a i → origin + 3 < get_or lens a 0 → Below count lens (a + 1) (i + origin * stride (take count lens) a)
+  pub below_next : (a i origin : ℕ) → a < count → Below count lens a i → origin + 3 < get_or lens a 0 → Below count lens (a + 1) (i + origin * stride (take count lens) a)
   unfolding sum_below
   below_next a i origin h below room =
       let dims = take count lens in

@@ -1,6 +1,7 @@
 pub mod Axes
 pub mod Spline
 pub mod ByAxis
+pub mod Axis
 pub mod Batch
 pub mod Total
 pub mod Built

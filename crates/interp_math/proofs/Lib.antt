@@ -1,3 +1,3 @@
 pub mod Four
-pub mod Sums
+pub mod Summed
 pub mod Tables

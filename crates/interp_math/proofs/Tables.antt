@@ -5,17 +5,26 @@ use mathlib.Core.List.{List, []}
 use Prim.Native.Nat.{ℕ, zero, suc, ◌+◌, ◌*◌, ◌≤◌, ◌<◌}
 use native.Mathlib.Nat.{eq-or-lt_of_le, mul-le-mul_right}
 use native.Mathlib.Omega.{arith}
+use Rattle.std.proofs.Common.{add-one}
 use lib.ListN.{length, get_or, set, length-set}
 use lib.Seq.{get_or-set_same, get_or-set_other, get_or-take}
 use lib.Ieee.{Float, nan, Format}
 use Rattle.interp_math.specs.Sum.{dot4, summed, gradient_part}
-use Rattle.interp_math.specs.Table.{lanes, rows_of, column, turned, across, sloped, part_lanes}
-use Rattle.interp_math.proofs.Sums.{summed-ext}
+use Rattle.interp_math.specs.Table.{lanes, strides_over, rows_of, column, turned, across, sloped, table_of, PartLanes}
+use Rattle.interp_math.proofs.Summed.{summed-ext, summed-dots}
 use Rattle.interp_math.proofs.Four.{four}
 
 -- the neighbours along an axis are at most three strides further
 pub near : (stride : ℕ) {p : ℕ} → p < 4 → p * stride ≤ 3 * stride
 near stride {p} h = mul-le-mul_right stride (let q : p ≤ 3 = omega arith in q)
+
+-- the strides of the axes before one, and its own, are within all
+pub strides-within : (strides : List ℕ) (j : ℕ) → j < 4 → strides_over strides j + get_or strides j 0 ≤ get_or strides 0 0 + get_or strides 1 0 + get_or strides 2 0 + get_or strides 3 0
+strides-within strides zero h = omega arith
+strides-within strides (suc zero) h = omega arith
+strides-within strides (suc (suc zero)) h = omega arith
+strides-within strides (suc (suc (suc zero))) h = omega arith
+strides-within strides (suc (suc (suc (suc j)))) h = absurd (omega (arith, h))
 
 -- ---- a table of four rows, of which p are there
 
@@ -42,6 +51,11 @@ module _ {row : ℕ → List Float} {table : List (List Float)} where
   pub rows_as : {row' : ℕ → List Float} {p : ℕ} → RowsTo row table p → ((k : ℕ) → row k ≡ row' k) → RowsTo row' table p
   rows_as w same = record { most = w.most; four = w.four; at = λ k h. w.at k h ∙ same k }
 
+-- four tables, of the first p of which P holds
+pub record TablesTo (P : ℕ → List (List Float) → Type 0) (tables : List (List (List Float))) (p : ℕ) : Type 0 where
+  pub four : length tables ≡ 4
+  pub at : (k : ℕ) → k < p → P k (get_or tables k [])
+
 row_of : (row : ℕ → List Float) (k : ℕ) → k < 4 → get_or (rows_of row) k [] ≡ row k
 row_of row zero h = refl
 row_of row (suc zero) h = refl
@@ -49,18 +63,23 @@ row_of row (suc (suc zero)) h = refl
 row_of row (suc (suc (suc zero))) h = refl
 row_of row (suc (suc (suc (suc k)))) h = absurd (omega (arith, h))
 
+-- a column by its number
+pub turned-at : (table : List (List Float)) (q : ℕ) → q < 4 → column table q ≡ get_or (turned table) q []
+turned-at table q h = sym (row_of (column table) q h)
+
 -- all four
 pub rows_all : {row : ℕ → List Float} {table : List (List Float)} → table ≡ rows_of row → RowsTo row table 4
 rows_all {row} e = record { most = omega arith; four = ap length e; at = λ k h. rw e (row_of row k h) }
 
--- ---- a table turned round twice: its rows of four are as they were
+-- ---- a table turned round twice: the four-term sums of its rows are as they were
 
-turn-row : (table : List (List Float)) (l : ℕ) → l < 4 → length (get_or table l []) ≡ 4 → get_or (turned (turned table)) l [] ≡ get_or table l []
-turn-row table zero h e = sym (four nan (get_or table 0 []) e)
-turn-row table (suc zero) h e = sym (four nan (get_or table 1 []) e)
-turn-row table (suc (suc zero)) h e = sym (four nan (get_or table 2 []) e)
-turn-row table (suc (suc (suc zero))) h e = sym (four nan (get_or table 3 []) e)
-turn-row table (suc (suc (suc (suc l)))) h e = absurd (omega (arith, h))
+turn-row : (f : Format) (table : List (List Float)) (l : ℕ) (v : List Float) → l < 4 → dot4 f (get_or (turned (turned table)) l []) v ≡ dot4 f (get_or table l []) v
+unfolding dot4
+turn-row f table zero v h = refl
+turn-row f table (suc zero) v h = refl
+turn-row f table (suc (suc zero)) v h = refl
+turn-row f table (suc (suc (suc zero))) v h = refl
+turn-row f table (suc (suc (suc (suc l)))) v h = absurd (omega (arith, h))
 
 -- ---- lanes
 
@@ -83,9 +102,11 @@ module _ (f : Format) (coefs : List Float) (strides : List ℕ) where
       rw (one at, one (at + 1), one (at + 2), one (at + 3))
 
   -- those by a table that was turned round are those by the table
-  pub lanes-turned : (weights : List (List Float)) {table : List (List Float)} (j at : ℕ) → j ≤ 4 → table ≡ turned weights → ((l : ℕ) → l < j → length (get_or weights l []) ≡ 4)
-      → lanes f coefs strides (turned table) j at ≡ lanes f coefs strides weights j at
-  lanes-turned weights j at few e each = rw e (lanes-ext (turned (turned weights)) weights j at (λ l h. turn-row weights l (omega arith) (each l h)))
+  pub lanes-turned : (weights : List (List Float)) {table : List (List Float)} (j at : ℕ) → j ≤ 4 → table ≡ turned weights → lanes f coefs strides (turned table) j at ≡ lanes f coefs strides weights j at
+  unfolding lanes
+  lanes-turned weights j at few e =
+      let one : (i : ℕ) → summed f coefs strides (turned (turned weights)) j i ≡ summed f coefs strides weights j i = λ i. summed-dots f coefs strides (turned (turned weights)) weights j i (λ l v h. turn-row f weights l v (omega arith)) in
+      rw (e, one at, one (at + 1), one (at + 2), one (at + 3))
 
   module _ (weights : List (List Float)) (j at : ℕ) where
     lane-at : (q : ℕ) → q < 4 → get_or (lanes f coefs strides weights j at) q nan ≡ summed f coefs strides weights j (at + q)
@@ -133,13 +154,9 @@ module _ (f : Format) (coefs : List Float) (strides : List ℕ) where
     lanes-before : (k j at : ℕ) → j ≤ k → lanes f coefs strides (sloped weights slopes k) j at ≡ lanes f coefs strides weights j at
     lanes-before k j at h = lanes-ext (sloped weights slopes k) weights j at (λ l g. other-weights k l (λ z. let y : ⊥ = omega arith in y))
 
-    -- the rows that are handed back
-    pub part-row : {rows : List (List Float)} (k j at : ℕ) → k ≤ j → j < 4 → rows ≡ part_lanes f coefs strides weights slopes j at → get_or rows k [] ≡ lanes f coefs strides (sloped weights slopes k) j at
-    unfolding part_lanes
-    part-row k j at h few e = rw e (get_or-take (suc j) (rows_of (λ k. lanes f coefs strides (sloped weights slopes k) j at)) k [] (omega arith) ∙ row_of (λ k. lanes f coefs strides (sloped weights slopes k) j at) k (omega arith))
-
-    pub value_row : {rows : List (List Float)} (j at : ℕ) → j < 4 → rows ≡ part_lanes f coefs strides weights slopes j at → get_or rows j [] ≡ lanes f coefs strides weights j at
-    value_row j at few e = part-row j j at (omega arith) few e ∙ lanes-before j j at (omega arith)
+    -- the row behind the parts is the value's
+    pub value_row : {rows : List (List Float)} (j at : ℕ) → PartLanes f coefs strides weights slopes j at rows → get_or rows j [] ≡ lanes f coefs strides weights j at
+    value_row j at w = w.each j (omega arith) ∙ lanes-before j j at (omega arith)
 
     -- four of them along axis j: a part of an axis before it, its own, and the value, which is what the next part is so far
     module _ (j at : ℕ) {table : List (List Float)} {p : ℕ} where
@@ -156,6 +173,26 @@ module _ (f : Format) (coefs : List Float) (strides : List ℕ) where
       pub value-up : RowsTo (λ i. lanes f coefs strides weights j (at + i * get_or strides j 0)) table p → 4 ≤ p
           → across f (get_or weights j []) table ≡ lanes f coefs strides (sloped weights slopes (suc j)) (suc j) at
       value-up w all = lanes-up weights j at w all ∙ sym (lanes-before (suc j) (suc j) at (omega arith))
+
+    -- all of them
+    module _ (j at : ℕ) {tables : List (List (List Float))} {n : ℕ} (w : TablesTo (λ p rows. PartLanes f coefs strides weights slopes j (at + p * get_or strides j 0) rows) tables n) (all : 4 ≤ n) where
+      table-rows : (k : ℕ) → k ≤ j → RowsTo (λ p. lanes f coefs strides (sloped weights slopes k) j (at + p * get_or strides j 0)) (table_of tables k) 4
+      table-rows k h = record { most = omega arith; four = refl; at = λ p l. row_of (λ p. get_or (get_or tables p []) k []) p l ∙ (w.at p (omega arith)).each k h }
+
+      table-value : RowsTo (λ p. lanes f coefs strides weights j (at + p * get_or strides j 0)) (table_of tables j) 4
+      table-value = record { most = omega arith; four = refl; at = λ p l. row_of (λ p. get_or (get_or tables p []) j []) p l ∙ value_row j _ (w.at p (omega arith)) }
+
+      pub parts-next : {rows : List (List Float)} → j < length weights → ((k : ℕ) → k < j → get_or rows k [] ≡ across f (get_or weights j []) (table_of tables k)) → get_or rows j [] ≡ across f (get_or slopes j []) (table_of tables j)
+          → get_or rows (j + 1) [] ≡ across f (get_or weights j []) (table_of tables j) → PartLanes f coefs strides weights slopes (suc j) at rows
+      parts-next few earlier own value = record {
+        each = λ k h. elim (eq-or-lt_of_le h) [
+          | inl q ↦ rw q ((rw (add-one j) at value) ∙ value-up j at table-value (omega arith))
+          | inr l ↦ elim (eq-or-lt_of_le (let q : k ≤ j = omega arith in q)) [
+            | inl q ↦ rw q (own ∙ own-up j at few table-value (omega arith))
+            | inr m ↦ earlier k m ∙ part_up j at k m (table-rows k (omega arith)) (omega arith)
+          ]
+        ];
+      }
 
     -- the last axis, of stride 1
     pub part_end : (k j at : ℕ) → k < j → get_or strides j 0 ≡ 1

@@ -9,8 +9,7 @@ ghost use Rattle.interp_math.specs.Sum.{mul_add, dot4 as dot4_of};
 mod slopes;
 mod table;
 
-pub use slopes::{parts_1, parts_2, parts_3};
-pub use table::{neighbours, sums_1, sums_2, sums_3, turn};
+pub use table::{NoAxis, OneMore, Sums, neighbours, turn};
 
 pub fn mul_add(a: f64, b: f64, c: f64) -> f64
     ensures { result ≡ mul_add binary64 a b c }

@@ -2,10 +2,13 @@
 // are worked out together: a row of the table holds four sums side by side, and four rows make those over one axis more. Each
 // sum is added up by its own operations, in the order of its definition. Strides and weights have an entry for each axis; those
 // of the axes summed over are looked at.
-ghost use Rattle.std.specs.Prelude.{◌≡◌, [], ◌+◌, ◌*◌, ◌<◌, length, get_or};
+ghost use Rattle.std.specs.Prelude.{◌≡◌, ℕ, suc, [], ◌+◌, ◌*◌, ◌<◌, ◌≤◌, length, get_or};
 ghost use Rattle.std.specs.Float.{binary64};
 ghost use Rattle.interp_math.specs.Sum.{dot4};
-ghost use Rattle.interp_math.specs.Table.{lanes, rows_of, column, turned, across as across_of};
+ghost use Rattle.interp_math.specs.Table.{PartLanes, lanes, strides_over, column, turned, across as across_of};
+
+use crate::slopes::parts_over;
+use std::marker::PhantomData;
 
 // Four coefficients side by side.
 pub fn neighbours(coeffs: &[f64], at: usize) -> [f64; 4]
@@ -13,19 +16,6 @@ pub fn neighbours(coeffs: &[f64], at: usize) -> [f64; 4]
     ensures { result ≡ lanes binary64 coeffs.now [] [] 0 at }
 {
     [coeffs[at], coeffs[at + 1], coeffs[at + 2], coeffs[at + 3]]
-}
-
-// Four rows of them, s apart.
-pub fn patch(coeffs: &[f64], s: usize, at: usize) -> [[f64; 4]; 4]
-    requires { at + 3 * s + 3 < length coeffs.now }
-    ensures { result ≡ rows_of (λ p. lanes binary64 coeffs.now [] [] 0 (at + p * s)) }
-{
-    [
-        neighbours(coeffs, at),
-        neighbours(coeffs, at + s),
-        neighbours(coeffs, at + 2 * s),
-        neighbours(coeffs, at + 3 * s),
-    ]
 }
 
 // The four-term sum of column q, by the operations of `dot4` in their order.
@@ -70,42 +60,92 @@ pub fn turn(table: &[[f64; 4]; 4]) -> [[f64; 4]; 4]
     ]
 }
 
-// Sums over axis 0, side by side.
-pub fn sums_1(coeffs: &[f64], strides: &[usize; 4], weights: &[[f64; 4]; 4], at: usize) -> [f64; 4]
-    requires { at + 3 * get_or strides.now 0 0 + 3 < length coeffs.now }
-    ensures { result ≡ lanes binary64 coeffs.now strides.now (turned weights.now) 1 at }
-{
-    let table = patch(coeffs, strides[0], at);
-    let w = pick(weights, 0);
-    across(&w, &table)
+// The sums over the first axes, so many as the type says: a type, so that the compiler knows the number and keeps the rows in
+// registers.
+pub trait Sums {
+    ghost axes: { ℕ };
+
+    fn axes() -> usize
+        requires { axes < 4 }
+        ensures { result ≡ axes };
+
+    // at four neighbours along the last axis, side by side
+    fn sums(coeffs: &[f64], strides: &[usize; 4], weights: &[[f64; 4]; 4], at: usize) -> [f64; 4]
+        requires few { axes < 4 }
+        requires within { at + 3 * strides_over strides.now axes + 3 < length coeffs.now }
+        ensures { result ≡ lanes binary64 coeffs.now strides.now (turned weights.now) axes at };
+
+    // the same of the parts of the gradient: row k is part k's, for each of these axes, and the row after them the value's
+    fn parts(
+        coeffs: &[f64],
+        strides: &[usize; 4],
+        weights: &[[f64; 4]; 4],
+        slopes: &[[f64; 4]; 4],
+        at: usize,
+    ) -> [[f64; 4]; 4]
+        requires few { (axes < 4) × (length weights.now ≡ 4) }
+        requires within { at + 3 * strides_over strides.now axes + 3 < length coeffs.now }
+        ensures { PartLanes binary64 coeffs.now strides.now weights.now slopes.now axes at result };
 }
 
-// Sums over the axes 0 and 1, side by side.
-pub fn sums_2(coeffs: &[f64], strides: &[usize; 4], weights: &[[f64; 4]; 4], at: usize) -> [f64; 4]
-    requires { at + 3 * (get_or strides.now 0 0 + get_or strides.now 1 0) + 3 < length coeffs.now }
-    ensures { result ≡ lanes binary64 coeffs.now strides.now (turned weights.now) 2 at }
-{
-    let mut table = [[0.0f64; 4]; 4];
-    let mut p: usize = 0;
-    while p < 4 {
-        table[p] = sums_1(coeffs, strides, weights, at + p * strides[1]);
-        p += 1;
+pub struct NoAxis;
+
+// over one axis more than S
+pub struct OneMore<S>(PhantomData<S>);
+
+impl Sums for NoAxis {
+    ghost axes = { 0 };
+
+    fn axes() -> usize {
+        0
     }
-    let w = pick(weights, 1);
-    across(&w, &table)
+
+    fn sums(coeffs: &[f64], strides: &[usize; 4], weights: &[[f64; 4]; 4], at: usize) -> [f64; 4] {
+        neighbours(coeffs, at)
+    }
+
+    #[inline(always)]
+    fn parts(
+        coeffs: &[f64],
+        strides: &[usize; 4],
+        weights: &[[f64; 4]; 4],
+        slopes: &[[f64; 4]; 4],
+        at: usize,
+    ) -> [[f64; 4]; 4] {
+        [neighbours(coeffs, at), [0.0; 4], [0.0; 4], [0.0; 4]]
+    }
 }
 
-// Sums over the axes 0 to 2, side by side.
-pub fn sums_3(coeffs: &[f64], strides: &[usize; 4], weights: &[[f64; 4]; 4], at: usize) -> [f64; 4]
-    requires { at + 3 * (get_or strides.now 0 0 + get_or strides.now 1 0 + get_or strides.now 2 0) + 3 < length coeffs.now }
-    ensures { result ≡ lanes binary64 coeffs.now strides.now (turned weights.now) 3 at }
-{
-    let mut table = [[0.0f64; 4]; 4];
-    let mut p: usize = 0;
-    while p < 4 {
-        table[p] = sums_2(coeffs, strides, weights, at + p * strides[2]);
-        p += 1;
+// The parts are compiled into their caller: out of it their tables are written out, and a gradient takes half as long again.
+impl<S: Sums> Sums for OneMore<S> {
+    ghost axes = { suc S.axes };
+
+    fn axes() -> usize {
+        S::axes() + 1
     }
-    let w = pick(weights, 2);
-    across(&w, &table)
+
+    fn sums(coeffs: &[f64], strides: &[usize; 4], weights: &[[f64; 4]; 4], at: usize) -> [f64; 4] {
+        let a = S::axes();
+        let mut table = [[0.0f64; 4]; 4];
+        for (p, sums) in table.iter_mut().enumerate() {
+            *sums = S::sums(coeffs, strides, weights, at + p * strides[a]);
+        }
+        across(&pick(weights, a), &table)
+    }
+
+    #[inline(always)]
+    fn parts(
+        coeffs: &[f64],
+        strides: &[usize; 4],
+        weights: &[[f64; 4]; 4],
+        slopes: &[[f64; 4]; 4],
+        at: usize,
+    ) -> [[f64; 4]; 4] {
+        let a = S::axes();
+        let mut tables = [[[0.0f64; 4]; 4]; 4];
+        for (p, parts) in tables.iter_mut().enumerate() {
+            *parts = S::parts(coeffs, strides, weights, slopes, at + p * strides[a]);
+        }
+        parts_over(a, weights, slopes, &tables)
+    }
 }

@@ -1,26 +1,25 @@
 -- Whether a query is outside: some axis in use has an Outside place for it. Assumes nothing.
 --     count, lens    the axis count and the lengths of the axes
-use Rattle.std.specs.Prelude.{Bool, true, false, List, ℕ, get_or, Float}
+use Rattle.std.specs.Prelude.{Option, Some, None, Bool, true, false, List, ℕ, get_or, Float}
 use Rattle.std.specs.Float.{Format, nan}
 use Rattle.shape.specs.Below.{any_below}
 use Rattle.multibspline.specs.declared.saturation.Saturation.{Saturation}
-use Rattle.multibspline.specs.declared.saturation.Saturation.TheVariants.{None, InsideLow, OutsideLow, InsideHigh, OutsideHigh}
+use Rattle.multibspline.specs.declared.saturation.Saturation.TheVariants as Place
 use Rattle.regular_weights.specs.declared.place.Loc.{Loc}
-use Rattle.regular_weights.specs.declared.place.Loc.TheVariants.{At, Unrepresentable}
 use Rattle.regular_map.specs.Place as Regular
 use Rattle.rectilinear_map.specs.Place as Rectilinear
 
 abbrev pub is_outside : Saturation → Bool
-is_outside None = false
-is_outside InsideLow = false
-is_outside OutsideLow = true
-is_outside InsideHigh = false
-is_outside OutsideHigh = true
+is_outside Place.None = false
+is_outside Place.InsideLow = false
+is_outside Place.OutsideLow = true
+is_outside Place.InsideHigh = false
+is_outside Place.OutsideHigh = true
 
 -- a cell that cannot be represented has no place
-abbrev pub is_outside_loc : Loc → Bool
-is_outside_loc (At sat origin) = is_outside sat
-is_outside_loc Unrepresentable = false
+abbrev pub is_outside_loc : Option Loc → Bool
+is_outside_loc (Some loc) = is_outside loc.sat
+is_outside_loc None = false
 
 -- axis a of a regular map, and of a rectilinear one
 unfoldable pub regular_axis_outside : Format → List ℕ → List Float → List Float → List Float → ℕ → Bool

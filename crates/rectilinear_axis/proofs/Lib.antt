@@ -1,4 +1,1 @@
-pub mod Cells
 pub mod Located
-pub mod Placing
-pub mod Moving

@@ -6,7 +6,7 @@ use native.Mathlib.Nat.{not-suc-le-zero, le_of_suc-le-suc}
 use lib.ListN.{length, length-map, get_or}
 use Rattle.rectilinear_weights.specs.declared.ghosts.Ghost.{Ghost}
 use Rattle.rectilinear_weights.specs.Records.{ghost_numbers}
-use Rattle.rectilinear_blocks.specs.Records.{ghosts}
+use Rattle.rectilinear_blocks.specs.Ghosts.{ghosts}
 
 -- an array in a record
 pub map-length : {X Y : Type 0} (f : X → Y) (l : List X) (n : ℕ) → length (map f l) ≡ n → length l ≡ n

@@ -1,4 +1,3 @@
 pub mod Ghosts
 pub mod Room
 pub mod Figures
-pub mod Stages

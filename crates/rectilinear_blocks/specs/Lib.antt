@@ -1,5 +1,5 @@
 pub mod Map
 pub mod Eval
 pub mod Sound
-pub mod Block
+pub mod Ghosts
 pub mod Records

@@ -9,3 +9,6 @@ pub record RectilinearMap : Type 0 where
   pub low : List (List Float)
   pub high : List (List Float)
   pub linear : Bool
+
+abbrev pub map_from : ℕ → List ℕ → List (List Float) → List (List Float) → Bool → RectilinearMap
+map_from count lens low high linear = record { count = count; lens = lens; low = low; high = high; linear = linear }

@@ -6,18 +6,13 @@ use Rattle.shape.specs.declared.answers.Refusal.{Refusal}
 use Rattle.evaluation.specs.Built.{BuiltFrom}
 use Rattle.rectilinear.specs.Fit.{rectilinear_fit_checks}
 use Rattle.rectilinear_blocks.specs.Map.{RectilinearMap}
-use Rattle.rectilinear_blocks.specs.Records.{ghosts}
-use Rattle.rectilinear_blocks.specs.declared.grid.Grid.{Grid}
-use Rattle.rectilinear_map.specs.Map.{of_grid, made}
+use Rattle.rectilinear_blocks.specs.Ghosts.{ghosts}
+use Rattle.rectilinear_map.specs.Map.{made}
 use Rattle.rectilinear_map.specs.declared.record.MultiBsplineRectilinear.{MultiBsplineRectilinear}
 
 -- the map that a record stands for
 abbrev pub map_of : MultiBsplineRectilinear → RectilinearMap
 map_of r = record { count = r.count; lens = r.dims; low = ghosts r.low_ghost_coeffs; high = ghosts r.high_ghost_coeffs; linear = r.linearize_extrapolation }
-
--- the map that the shape and the flag of a record with strides make of a joined grid, whatever its ghost numbers are
-abbrev pub by_knots : Grid → List Float → RectilinearMap
-by_knots g grid = of_grid binary64 g.count g.dims grid g.linear
 
 -- what a function that builds a map hands out, and answers so
 abbrev pub BuiltAs : Format → ℕ → ℕ → List ℕ → List Float → Bool → Result MultiBsplineRectilinear Refusal → Type 0

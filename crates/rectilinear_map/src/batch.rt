@@ -28,7 +28,7 @@ pub fn values(
     if xs.len() != map.count * n {
         return Err(Refusal::DimensionMismatch);
     }
-    put_values(grid_of(map), grid, coeffs, xs, n, out)
+    put_values(grid_of(map, grid), coeffs, xs, n, out)
 }
 
 // Gradients at a batch of queries.
@@ -51,5 +51,5 @@ pub fn gradients(
         return Err(Refusal::DimensionMismatch);
     }
     let n = out.len() / count;
-    put_gradients(grid_of(map), grid, coeffs, xs, n, out)
+    put_gradients(grid_of(map, grid), coeffs, xs, n, out)
 }

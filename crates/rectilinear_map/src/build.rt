@@ -7,7 +7,7 @@ ghost use Rattle.knots.specs.Joined.{knots_of, total};
 ghost use Rattle.rectilinear_weights.specs.Ghosts.{low_ghost_coeffs, high_ghost_coeffs};
 ghost use Rattle.rectilinear_weights.specs.Records.{ghost_numbers};
 ghost use Rattle.rectilinear.specs.Fit.{RectilinearFitted};
-ghost use Rattle.rectilinear_blocks.specs.Records.{ghosts};
+ghost use Rattle.rectilinear_blocks.specs.Ghosts.{ghosts};
 ghost use Rattle.rectilinear_map.specs.Map.{no_ghost, low_ghosts, high_ghosts, made, blank};
 ghost use Rattle.rectilinear_map.specs.Records.{map_of, BuiltAs, BuiltByFit};
 ghost use Rattle.rectilinear_blocks.specs.Eval.{grid_answer, map_answer};

@@ -27,7 +27,7 @@ pub fn one(
     if x.len() != map.count {
         return Err(Refusal::DimensionMismatch);
     }
-    value_at(grid_of(map), grid, coeffs, x)
+    value_at(grid_of(map, grid), coeffs, x)
 }
 
 // The gradient of a single query.
@@ -44,5 +44,5 @@ pub fn one_grad(
     if x.len() != map.count {
         return Err(Refusal::DimensionMismatch);
     }
-    gradient_at(grid_of(map), grid, coeffs, x)
+    gradient_at(grid_of(map, grid), coeffs, x)
 }

@@ -1,33 +1,28 @@
 // The value at a single query of the map that a grid makes, for a caller that has the grid and no record: the ghost numbers of an
 // axis are worked out only where the query lies at an end of it, and only those of that end.
-ghost use Rattle.std.specs.Prelude.{◌≡◌, ℕ, ◌+◌, ◌*◌, ◌≤◌, ◌<◌, length, take, get_or};
-ghost use Rattle.shape.specs.Refusal.{answer_number, answer_or};
+ghost use Rattle.std.specs.Prelude.{◌≡◌, true, ◌≤◌, length, take};
 ghost use Rattle.multibspline.specs.Numbers.{f0};
-ghost use Rattle.std.specs.Float.{binary64, nan};
+ghost use Rattle.std.specs.Float.{binary64};
+ghost use Rattle.shape.specs.Refusal.{answer_number, answer_or};
 ghost use Rattle.shape.specs.Shape.{size};
-ghost use Rattle.shape.specs.Usable.{Usable};
-ghost use Rattle.knots.specs.Knots.{count_below};
-ghost use Rattle.knots.specs.Joined.{total};
+ghost use Rattle.knots.specs.Knots.{rises, count_below};
 ghost use Rattle.rectilinear_weights.specs.Ghosts.{low_ghost_coeffs, high_ghost_coeffs};
-ghost use Rattle.evaluation.specs.Axes.{query};
-ghost use Rattle.evaluation.specs.Block.{RowsPut};
+ghost use Rattle.evaluation.specs.Granted.{Ready};
 ghost use Rattle.evaluation.specs.Spline.{OneValue};
-ghost use Rattle.evaluation.specs.Entries.{Answered};
-ghost use Rattle.rectilinear_axis.specs.Axis.{place_weights};
-ghost use Rattle.rectilinear_blocks.specs.Eval.{knots_on, weights_on, rectilinear};
-ghost use Rattle.rectilinear_blocks.specs.Records.{Accepted};
+ghost use Rattle.rectilinear_axis.specs.Axis.{place_weights, rectilinear_axis};
+ghost use Rattle.rectilinear_blocks.specs.Eval.{rectilinear_axes, rectilinear};
+ghost use Rattle.rectilinear_blocks.specs.Sound.{Gridded};
 ghost use Rattle.rectilinear_map.specs.Map.{of_grid, made};
-ghost use Rattle.rectilinear_map.specs.Records.{by_knots};
 
-use crate::build::{check_map, no_ghosts};
-use block_sums::put_values;
-use evaluation::{Span, put_row, strides_of};
-use knots::{axis_knots, loc_of};
+use crate::build::check_map;
+use block_sums::single_value;
+use evaluation::{Axis, Map, strides_of};
+use knots::{axis_knots, count_below, loc_of};
 use multibspline::Saturation;
 use rectilinear_basis::basis_span_weights;
-use rectilinear_blocks::{Grid, place_axes};
 use rectilinear_weights::{
-    high_boundary_weights, high_ghost_coeffs, low_boundary_weights, low_ghost_coeffs,
+    high_boundary_weights, high_ghost_coeffs, interp_weight_derivatives, low_boundary_weights,
+    low_ghost_coeffs,
 };
 use shape::Refusal;
 
@@ -51,75 +46,79 @@ fn own_weights(knots: &[f64], linear: bool, c: usize, x: f64) -> [f64; 4]
     }
 }
 
-// The weights on axis a, by the count that its place has left in `spots`.
-fn axis_weights(
-    count: usize,
-    dims: [usize; 4],
-    grid: &[f64],
+// An axis by its knots alone.
+#[derive(Clone, Copy)]
+struct Knots<'a> {
+    knots: &'a [f64],
     linear: bool,
-    x: &[f64],
-    spots: &[usize],
-    a: usize,
-) -> [f64; 4]
-    requires usable { Usable count dims × (length grid.now ≡ total (take count dims)) × (a < count) × (count ≤ length x.now) × (count < length spots.now) }
-    requires a_value { get_or spots.now (a + 1) 0 ≡ count_below (knots_on count dims grid.now a) (get_or x.now a nan) }
-    ensures { result ≡ weights_on binary64 (of_grid binary64 count dims grid.now linear) grid.now (query count x.now 1 0) a }
-{
-    own_weights(axis_knots(grid, count, dims, a), linear, spots[a + 1], x[a])
+    ghost four: { 4 ≤ length knots.now },
+    ghost rising: { rises knots.now ≡ true },
 }
 
-// The rows of all axes.
-fn put_weights(
-    count: usize,
-    dims: [usize; 4],
-    grid: &[f64],
-    linear: bool,
-    x: &[f64],
-    spots: &[usize],
-    work: &mut [f64],
-)
-    requires usable { Usable count dims × (length grid.now ≡ total (take count dims)) × (count ≤ length x.now) × (count < length spots.now) × (4 * count ≤ length work.old) }
-    requires by_index { (b : ℕ) → b < count → get_or spots.now (b + 1) 0 ≡ count_below (knots_on count dims grid.now b) (get_or x.now b nan) }
-    ensures { RowsPut (weights_on binary64 (of_grid binary64 count dims grid.now linear) grid.now (query count x.now 1 0)) 0 count work.old work.new }
-{
-    let mut a: usize = 0;
-    while a < count {
-        put_row(
-            axis_weights(count, dims, grid, linear, x, spots, a),
-            a,
-            work,
-        );
-        a += 1;
+impl<'a> Axis for Knots<'a> {
+    type Place = usize;
+
+    ghost view = { λ k. rectilinear_axis binary64 k.knots.now (low_ghost_coeffs binary64 k.knots.now) (high_ghost_coeffs binary64 k.knots.now) k.linear };
+
+    ghost Kept = { λ k x c. c ≡ count_below k.knots.now x };
+
+    fn place(self, x: f64) -> Option<(usize, usize)> {
+        let c = count_below(self.knots, x);
+        Some((loc_of(self.knots.len(), c).origin, c))
+    }
+
+    fn weights(self, c: usize, x: f64) -> [f64; 4] {
+        own_weights(self.knots, self.linear, c, x)
+    }
+
+    fn slopes(self, c: usize, x: f64) -> [f64; 4] {
+        let loc = loc_of(self.knots.len(), c);
+        interp_weight_derivatives(
+            self.knots,
+            loc.span,
+            x,
+            loc.sat,
+            self.linear,
+            low_ghost_coeffs(self.knots),
+            high_ghost_coeffs(self.knots),
+        )
     }
 }
 
-// The value, or that the query has no place: the stages of `value_at`, whatever ghost numbers the record has.
-fn value_by_knots(map: Grid, grid: &[f64], coeffs: &[f64], x: &[f64]) -> Result<f64, Refusal>
-    requires { Accepted map grid.now × (length coeffs.now ≡ size (take map.count map.dims)) × (map.count ≤ length x.now) }
-    ensures { Answered (rectilinear binary64 (by_knots map grid.now) grid.now coeffs.now) (query map.count x.now 1 0) (answer_number result) (answer_or f0 result) }
-{
-    let count = map.count;
-    let dims = map.dims;
-    let strides = map.strides;
-    let s = Span {
-        n: 1,
-        from: 0,
-        cap: 1,
-        m: 1,
-    };
-    let mut spots = [0usize; 5];
-    let good = place_axes(map, grid, x, s, &mut spots);
-    if good < 1 {
-        return Err(Refusal::Unrepresentable);
-    }
-    let mut work = [0.0f64; 16];
-    put_weights(count, dims, grid, map.linear, x, &spots, &mut work);
-    let mut out = [0.0f64; 1];
-    put_values(count, &strides, coeffs, &spots, &work, 1, 0, good, &mut out);
-    Ok(out[0])
+// A map by its joined grid alone.
+#[derive(Clone, Copy)]
+struct OfGrid<'a> {
+    count: usize,
+    dims: [usize; 4],
+    strides: [usize; 4],
+    knots: &'a [f64],
+    linear: bool,
+    ghost ready: { Ready count dims strides },
+    ghost gridded: { Gridded count dims knots.now },
 }
 
-// The value of a single query. The places do not look at ghost numbers, so that they are found with none.
+impl<'a> Map for OfGrid<'a> {
+    type Along = Knots<'a>;
+
+    ghost view = { λ g. rectilinear_axes binary64 (of_grid binary64 g.count g.dims g.knots.now g.linear) g.knots.now };
+
+    fn count(&self) -> usize {
+        self.count
+    }
+
+    fn strides(&self) -> [usize; 4] {
+        self.strides
+    }
+
+    fn axis(&self, a: usize) -> Knots<'a> {
+        Knots {
+            knots: axis_knots(self.knots, self.count, self.dims, a),
+            linear: self.linear,
+        }
+    }
+}
+
+// The value of a single query.
 pub fn value(
     count: usize,
     dims: [usize; 4],
@@ -135,15 +134,13 @@ pub fn value(
         return Err(Refusal::DimensionMismatch);
     }
     let strides = strides_of(count, dims);
-    let low = no_ghosts();
-    let high = no_ghosts();
-    let map = Grid {
+    let map = OfGrid {
         count: count,
         dims: dims,
         strides: strides,
-        low: low,
-        high: high,
+        knots: grid,
         linear: linear,
     };
-    value_by_knots(map, grid, coeffs, x)
+    let mut places = [0usize; 1];
+    single_value(&map, coeffs, x, &mut places)
 }

@@ -1,5 +1,4 @@
 pub mod Map
 pub mod Eval
 pub mod Checks
-pub mod Block
 pub mod Records

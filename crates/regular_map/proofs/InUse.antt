@@ -7,7 +7,8 @@ use lib.Ieee.{Float, Format, nan}
 use Rattle.evaluation.proofs.InUse.{take_same}
 use Rattle.evaluation.proofs.ByAxis.{SameAxes, spline-same}
 use Rattle.regular_blocks.specs.Map.{RegularMap}
-use Rattle.regular_blocks.specs.Eval.{is_unrepresentable, origin_at, loc_on, weights_on, slopes_on, regular_axes}
+use Rattle.regular_axis.specs.Axis.{is_unrepresentable, origin_at}
+use Rattle.regular_blocks.specs.Eval.{loc_on, weights_on, slopes_on, regular_axes}
 use Rattle.regular_blocks.specs.Checks.{map_checks}
 use Rattle.regular_map.specs.InUse.{SameInUse, UnusedNotLookedAt}
 

@@ -15,11 +15,12 @@ use Rattle.shape.specs.declared.answers.Refusal.{Refusal}
 use Rattle.shape.specs.declared.answers.Refusal.TheVariants as Refusals
 use Rattle.multibspline.specs.declared.saturation.Saturation.{Saturation}
 use Rattle.regular_weights.specs.declared.place.Loc.{Loc}
-use Rattle.regular_weights.specs.declared.place.Loc.TheVariants.{At, Unrepresentable}
+use Rattle.regular_weights.specs.Place.{at, unrepresentable}
+use Rattle.std.proofs.Common.{Option, Some, None}
 use Rattle.evaluation.specs.Place.{place_checks}
 use Rattle.evaluation.proofs.Placing.{place-refused, place_found, left_out, others-passed, storage-passes, place-checks, place-no-axis, place-axis}
 use Rattle.regular_blocks.specs.Checks.{any_step_bad, map_checks, map_answer}
-use Rattle.regular_blocks.specs.Eval.{is_unrepresentable}
+use Rattle.regular_axis.specs.Axis.{is_unrepresentable}
 use Rattle.regular_map.specs.Place.{loc_at, record_checks, placed_loc, RegularPlaced}
 
 -- ---- the checks of a record
@@ -50,7 +51,7 @@ module _ (count : ℕ) (lens : List ℕ) (steps : List Float) where
 
 module _ (f : Format) (count : ℕ) (lens : List ℕ) (starts steps : List Float) (a : ℕ) (x : Float) where
   -- the check of the coordinate, by its place
-  cell : {loc : Loc} → loc_at f lens starts steps a x ≡ loc → first_refusal (refuse 6 (is_unrepresentable (loc_at f lens starts steps a x)) ∷ []) ≡ cond (is_unrepresentable loc) 6 0
+  cell : {loc : Option Loc} → loc_at f lens starts steps a x ≡ loc → first_refusal (refuse 6 (is_unrepresentable (loc_at f lens starts steps a x)) ∷ []) ≡ cond (is_unrepresentable loc) 6 0
   unfolding first_refusal
   cell e = rw e
 
@@ -62,19 +63,19 @@ module _ (f : Format) (count : ℕ) (lens : List ℕ) (starts steps : List Float
     placed-no-axis h = place-refused Refusals.NoSuchLine (place-no-axis (record_checks count lens steps) count a _ (record-numbered count lens steps) ok h)
 
     module _ (h : a < count) where
-      on-axis : {loc : Loc} → loc_at f lens starts steps a x ≡ loc → first_refusal (place_checks (record_checks count lens steps) count a (refuse 6 (is_unrepresentable (loc_at f lens starts steps a x)) ∷ [])) ≡ cond (is_unrepresentable loc) 6 0
+      on-axis : {loc : Option Loc} → loc_at f lens starts steps a x ≡ loc → first_refusal (place_checks (record_checks count lens steps) count a (refuse 6 (is_unrepresentable (loc_at f lens starts steps a x)) ∷ [])) ≡ cond (is_unrepresentable loc) 6 0
       on-axis e = place-axis (record_checks count lens steps) count a _ (record-numbered count lens steps) ok h ∙ cell e
 
-      pub placed_at : {loc : Loc} {sat : Saturation} {origin : ℕ} → loc ≡ loc_at f lens starts steps a x → loc ≡ At sat origin → RegularPlaced f count lens starts steps a x (Ok (sat, origin))
+      pub placed_at : {loc : Option Loc} {sat : Saturation} {origin : ℕ} → loc ≡ loc_at f lens starts steps a x → loc ≡ at sat origin → RegularPlaced f count lens starts steps a x (Ok (sat, origin))
       placed_at e told = place_found (on-axis (sym e ∙ told)) (sym told ∙ e)
 
-      pub placed-nowhere : {loc : Loc} → loc ≡ loc_at f lens starts steps a x → loc ≡ Unrepresentable → RegularPlaced f count lens starts steps a x (Err Refusals.Unrepresentable)
+      pub placed-nowhere : {loc : Option Loc} → loc ≡ loc_at f lens starts steps a x → loc ≡ unrepresentable → RegularPlaced f count lens starts steps a x (Err Refusals.Unrepresentable)
       placed-nowhere e told = place-refused Refusals.Unrepresentable (sym (on-axis (sym e ∙ told)))
 
       -- on an axis of an accepted record the answer is the place
       pub placed-is : (r : Result (Saturation × ℕ) Refusal) → RegularPlaced f count lens starts steps a x r → placed_loc r ≡ loc_at f lens starts steps a x
       placed-is r w = go (loc_at f lens starts steps a x) refl
         where
-          go : (loc : Loc) → loc_at f lens starts steps a x ≡ loc → placed_loc r ≡ loc_at f lens starts steps a x
-          go (At sat origin) e = w.finds ∙ rw (on-axis e)
-          go Unrepresentable e = w.finds ∙ rw (on-axis e, e)
+          go : (loc : Option Loc) → loc_at f lens starts steps a x ≡ loc → placed_loc r ≡ loc_at f lens starts steps a x
+          go (Some l) e = w.finds ∙ rw (on-axis e)
+          go None e = w.finds ∙ rw (on-axis e, e)

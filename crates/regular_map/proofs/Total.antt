@@ -19,11 +19,14 @@ use Rattle.shape.proofs.Outcome.{Tests, none, test, total, append, shape-test, l
 use Rattle.multibspline.specs.Numbers.{f0}
 use Rattle.regular.proofs.Total.{fit-tests}
 use Rattle.regular_weights.specs.declared.place.Loc.{Loc}
+use Rattle.std.proofs.Common.{Option, Some, None}
+use Rattle.regular_weights.specs.Place.{unrepresentable}
 use Rattle.evaluation.specs.ByAxis.{refuses}
 use Rattle.evaluation.proofs.Total.{evaluation-total}
 use Rattle.evaluation.proofs.Placing.{axis-test}
 use Rattle.regular_blocks.specs.Map.{RegularMap}
-use Rattle.regular_blocks.specs.Eval.{is_unrepresentable, loc_on, regular_axes}
+use Rattle.regular_axis.specs.Axis.{is_unrepresentable}
+use Rattle.regular_blocks.specs.Eval.{loc_on, regular_axes}
 use Rattle.regular_blocks.specs.Checks.{any_step_bad, map_checks, map_answer, from_values_answer, regular}
 use Rattle.regular_map.specs.Place.{loc_at}
 use Rattle.regular_map.specs.Total.{steps_condition, Representable, map_conditions, MapTotal, FromValuesTotal, RegularTotal, PlaceTotal}
@@ -72,11 +75,11 @@ from-values-total count lens steps samples coefs scratch four four' =
 
 -- ---- the places
 
-placed : (l : Loc) → l ≢ Loc.Unrepresentable → is_unrepresentable l ≡ false
-placed (Loc.At sat origin) h = refl
-placed Loc.Unrepresentable h = absurd (h refl)
+placed : (l : Option Loc) → l ≢ unrepresentable → is_unrepresentable l ≡ false
+placed (Some loc) h = refl
+placed None h = absurd (h refl)
 
-has-place : (l : Loc) → (is_unrepresentable l ≡ false) ↔ (l ≢ Loc.Unrepresentable)
+has-place : (l : Option Loc) → (is_unrepresentable l ≡ false) ↔ (l ≢ unrepresentable)
 has-place l = ((λ e bad. apart (is_unrepresentable l) (rw bad) e), placed l)
 
 pub place-total : PlaceTotal

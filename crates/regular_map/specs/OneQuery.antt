@@ -3,24 +3,14 @@
 use Rattle.std.specs.Prelude.{◌≡◌, true, false, List, ℕ, ◌≤◌, ◌<◌, length, take, Float}
 use Rattle.std.specs.Float.{Format}
 use Rattle.shape.specs.Shape.{size}
-use Rattle.regular_weights.specs.Place.{get_loc, past_origin}
-use Rattle.regular_weights.specs.declared.place.Loc.TheVariants.{At, Unrepresentable}
 use Rattle.evaluation.specs.Axes.{query}
 use Rattle.evaluation.specs.OneQuery.{SoFar}
 use Rattle.regular_blocks.specs.Eval.{regular_axes}
-use Rattle.regular_blocks.specs.Records.{map_of, Accepted}
+use Rattle.regular_blocks.specs.Records.{map_of}
 use Rattle.regular_blocks.specs.declared.grid.Grid.{Grid}
-use Rattle.regular_map.specs.declared.seat.Seat.{Seat}
-
--- the place of a coordinate on an axis, and how far it lies past the point after its origin; or that it has none
-pub record SeatOf (f : Format) (n : ℕ) (start step x : Float) (seat : Seat) : Type 0 where
-  pub place : seat.placed ≡ true → get_loc f n start step x ≡ At seat.sat seat.origin
-  pub past : seat.placed ≡ true → seat.t ≡ past_origin f start step x seat.origin
-  pub none : seat.placed ≡ false → get_loc f n start step x ≡ Unrepresentable
 
 -- the first a axes of an accepted map have been looked at, and there is one more
 pub record LookedAt (f : Format) (g : Grid) (coefs xs : List Float) (a first : ℕ) (rows : List (List Float)) : Type 0 where
-  pub accepted : Accepted g
   pub sized : length coefs ≡ size (take g.count g.dims)
   pub coordinates : g.count ≤ length xs
   pub more : a < g.count

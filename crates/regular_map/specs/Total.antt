@@ -7,7 +7,7 @@ use Rattle.shape.specs.Checks.{first_refusal}
 use Rattle.shape.specs.Outcome.{Condition, refuse_unless, Total, shape_conditions, length_condition}
 use Rattle.multibspline.specs.Numbers.{f0}
 use Rattle.regular.specs.Total.{fit_conditions}
-use Rattle.regular_weights.specs.declared.place.Loc.TheVariants.{Unrepresentable}
+use Rattle.regular_weights.specs.Place.{unrepresentable}
 use Rattle.evaluation.specs.Total.{EvaluationTotal}
 use Rattle.regular_blocks.specs.Map.{RegularMap}
 use Rattle.regular_blocks.specs.Eval.{loc_on}
@@ -20,7 +20,7 @@ steps_condition count steps = refuse_unless 5 ((a : ℕ) → a < count → lt f0
 
 -- every axis in use has a representable cell for the query
 abbrev pub Representable : Format → RegularMap → List Float → Type 0
-Representable f m x = (a : ℕ) → a < m.count → loc_on f m x a ≢ Unrepresentable
+Representable f m x = (a : ℕ) → a < m.count → loc_on f m x a ≢ unrepresentable
 
 -- of a map: the shape, the coefficients, the steps
 abbrev pub map_conditions : ℕ → List ℕ → List Float → ℕ → List Condition
@@ -48,5 +48,5 @@ PlaceTotal = (f : Format) (count : ℕ) (lens : List ℕ) (starts steps : List F
     shape_conditions count lens
     ++ (steps_condition count steps
     ∷ refuse_unless 7 (a < count)
-    ∷ refuse_unless 6 (loc_at f lens starts steps a x ≢ Unrepresentable)
+    ∷ refuse_unless 6 (loc_at f lens starts steps a x ≢ unrepresentable)
     ∷ []))

@@ -2,7 +2,6 @@
 ghost use Rattle.std.specs.Prelude.{◌≡◌};
 ghost use Rattle.shape.specs.Usable.{Usable};
 ghost use Rattle.regular_blocks.specs.Records as blocks;
-ghost use Rattle.regular_blocks.specs.Records.{Accepted};
 ghost use Rattle.regular_map.specs.Records.{map_of};
 
 use crate::record::MultiBsplineRegular;
@@ -11,7 +10,7 @@ use regular_blocks::Grid;
 
 pub fn grid_of(map: MultiBsplineRegular) -> Grid
     requires { Usable map.count map.dims }
-    ensures { Accepted result × (blocks.map_of result ≡ map_of map) }
+    ensures { blocks.map_of result ≡ map_of map }
 {
     let dims = map.dims;
     let starts = map.starts;

@@ -9,7 +9,6 @@ mod eval;
 mod grid;
 mod place;
 mod record;
-mod seat;
 mod single;
 
 pub use build::{blank, check_map};

@@ -4,7 +4,7 @@ ghost use Rattle.regular_map.specs.Place.{RegularPlaced};
 
 use crate::build::check_map;
 use multibspline::Saturation;
-use regular_weights::{Loc, get_loc};
+use regular_weights::get_loc;
 use shape::{Refusal, Shape};
 
 // The record is checked as `check` does, for as many coefficients as its shape wants.
@@ -24,7 +24,7 @@ pub fn place(
         return Err(Refusal::NoSuchLine);
     }
     match get_loc(dims[axis], starts[axis], steps[axis], x) {
-        Loc::At(sat, origin) => Ok((sat, origin)),
-        Loc::Unrepresentable => Err(Refusal::Unrepresentable),
+        Some(loc) => Ok((loc.sat, loc.origin)),
+        None => Err(Refusal::Unrepresentable),
     }
 }

@@ -8,7 +8,7 @@ use Rattle.shape.proofs.Below.{and_both}
 use Rattle.multibspline.specs.Numbers.{f0, f-1}
 use Rattle.multibspline.specs.declared.saturation.Saturation.TheVariants.{OutsideLow}
 use Rattle.regular_weights.specs.Place.{loc_of_cell, loc_of}
-use Rattle.regular_weights.specs.declared.place.Loc.TheVariants.{At, Unrepresentable}
+use Rattle.regular_weights.specs.Place.{at, unrepresentable}
 
 abbrev 2^63 : Float
 2^63 = fin false 1 (pos 63)
@@ -47,24 +47,24 @@ ceil-pos : (a b : ℕ) → 0 < b → 0 < a → 0 < (a + (b - 1)) / b
 ceil-pos a b B h = (le-div_iff_mul-le B).1 (omega arith)
 
 in-range : (n a b : ℕ) → 0 < b → ltb (a * 1) (2 ^ 63 * b) ≡ true
-    → cond (ltb (a / b) (2 ^ 63)) (loc_of_cell n (pred_ℤ (pos (a / b)))) Unrepresentable ≡ loc_of_cell n (pred_ℤ (pos (min (a / b) (2 ^ 64 - 1))))
+    → cond (ltb (a / b) (2 ^ 63)) (loc_of_cell n (pred_ℤ (pos (a / b)))) unrepresentable ≡ loc_of_cell n (pred_ℤ (pos (min (a / b) (2 ^ 64 - 1))))
 in-range n a b B r =
     let g = ltb-true (a * 1) (2 ^ 63 * b) r in
     let h : a / b < 2 ^ 63 = (div-lt_iff_lt-mul B).1 (omega arith) in
     let u : min (a / b) (2 ^ 64 - 1) ≡ a / b = omega arith in
     rw (lt-ltb (a / b) (2 ^ 63) h, u)
 
-over : (n a b : ℕ) → 0 < b → ltb (a * 1) (2 ^ 63 * b) ≡ false → cond (ltb (a / b) (2 ^ 63)) (loc_of_cell n (pred_ℤ (pos (a / b)))) Unrepresentable ≡ Unrepresentable
+over : (n a b : ℕ) → 0 < b → ltb (a * 1) (2 ^ 63 * b) ≡ false → cond (ltb (a / b) (2 ^ 63)) (loc_of_cell n (pred_ℤ (pos (a / b)))) unrepresentable ≡ unrepresentable
 over n a b B r =
     let g = ltb-false (a * 1) (2 ^ 63 * b) r in
     let h : 2 ^ 63 ≤ a / b = (le-div_iff_mul-le B).1 (omega arith) in
     rw (le-ltb (a / b) (2 ^ 63) h)
 
-low-cell : (n k : ℕ) → 0 < k → k < 2 ^ 63 → cond (ltb (nat_abs (neg_ℤ (pos k))) (2 ^ 63)) (loc_of_cell n (pred_ℤ (neg_ℤ (pos k)))) Unrepresentable ≡ At OutsideLow 0
+low-cell : (n k : ℕ) → 0 < k → k < 2 ^ 63 → cond (ltb (nat_abs (neg_ℤ (pos k))) (2 ^ 63)) (loc_of_cell n (pred_ℤ (neg_ℤ (pos k)))) unrepresentable ≡ at OutsideLow 0
 low-cell n zero p h = absurd (let q : ⊥ = omega arith in q)
 low-cell n (suc k) p h = rw (lt-ltb (suc k) (2 ^ 63) h)
 
-under-cell : (n k : ℕ) → 2 ^ 63 ≤ k → cond (ltb (nat_abs (neg_ℤ (pos k))) (2 ^ 63)) (loc_of_cell n (pred_ℤ (neg_ℤ (pos k)))) Unrepresentable ≡ Unrepresentable
+under-cell : (n k : ℕ) → 2 ^ 63 ≤ k → cond (ltb (nat_abs (neg_ℤ (pos k))) (2 ^ 63)) (loc_of_cell n (pred_ℤ (neg_ℤ (pos k)))) unrepresentable ≡ unrepresentable
 under-cell n zero h = absurd (let q : ⊥ = omega arith in q)
 under-cell n (suc k) h = rw (le-ltb (suc k) (2 ^ 63) h)
 
@@ -118,14 +118,14 @@ loc_in n (inf false) p r = absurd (f≠t r)
 loc_in n (fin false m e) p r = in-range n (m * up e) (down e) (down_pos e) r
 loc_in n (fin true m e) p r = rw (ceil-zero (m * up e) (down e) (down_pos e) (not-below m e p))
 
-pub loc-over : (n : ℕ) (q : Float) → le f0 q ≡ true → lt q 2^63 ≡ false → loc_of n q ≡ Unrepresentable
+pub loc-over : (n : ℕ) (q : Float) → le f0 q ≡ true → lt q 2^63 ≡ false → loc_of n q ≡ unrepresentable
 unfolding le lt eq loc_of
 loc-over n nan p r = refl
 loc-over n (inf s) p r = refl
 loc-over n (fin false m e) p r = over n (m * up e) (down e) (down_pos e) r
 loc-over n (fin true m e) p r = absurd (let q : ⊥ = omega (arith, down_pos e, ltb-false 0 (m * up e * 1 + 2 ^ 63 * down e) r) in q)
 
-pub loc-low : (f : Format) (n : ℕ) (q : Float) → T (fits f q) → le f0 q ≡ false → lt -2^63 q ≡ true → loc_of n q ≡ At OutsideLow 0
+pub loc-low : (f : Format) (n : ℕ) (q : Float) → T (fits f q) → le f0 q ≡ false → lt -2^63 q ≡ true → loc_of n q ≡ at OutsideLow 0
 unfolding le lt eq loc_of
 loc-low f n nan h p r = absurd (f≠t r)
 loc-low f n (inf true) h p r = absurd (f≠t r)
@@ -135,7 +135,7 @@ loc-low f n (fin true m e) h p r =
     low-cell n ((m * up e + (down e - 1)) / down e) (ceil-pos (m * up e) (down e) (down_pos e) (not-zero (m * up e) (down e) p))
     (ceil-small f true m e h (ltb-true (m * up e * 1) (2 ^ 63 * down e) r))
 
-pub loc-under : (n : ℕ) (q : Float) → le f0 q ≡ false → lt -2^63 q ≡ false → loc_of n q ≡ Unrepresentable
+pub loc-under : (n : ℕ) (q : Float) → le f0 q ≡ false → lt -2^63 q ≡ false → loc_of n q ≡ unrepresentable
 unfolding le lt eq loc_of
 loc-under n nan p r = refl
 loc-under n (inf s) p r = refl

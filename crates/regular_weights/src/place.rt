@@ -5,15 +5,15 @@ ghost use Rattle.regular_weights.specs.Place.{loc_of, get_loc, past_origin};
 
 use multibspline::Saturation;
 
-// The place with the first of the four coefficients that count, or that the cell cannot be represented.
+// The place, and the first of the four coefficients that count.
 #[derive(Clone, Copy)]
-pub enum Loc {
-    At(Saturation, usize),
-    Unrepresentable,
+pub struct Loc {
+    pub sat: Saturation,
+    pub origin: usize,
 }
 
-// The place by the quotient. Below zero the place is OutsideLow, so that only the range is left to test there.
-fn loc_of(n: usize, q: f64) -> Loc
+// The place by the quotient; None where its cell cannot be represented. Below zero the place is OutsideLow, so that only the range is left to test there.
+fn loc_of(n: usize, q: f64) -> Option<Loc>
     requires { 4 ≤ n }
     ensures { result ≡ loc_of n q }
 {
@@ -21,25 +21,40 @@ fn loc_of(n: usize, q: f64) -> Loc
         if q < 9223372036854775808.0 {
             let u = std::num::truncating_f64_to_u64(q) as usize;
             if u == 0 {
-                return Loc::At(Saturation::InsideLow, 0);
+                return Some(Loc {
+                    sat: Saturation::InsideLow,
+                    origin: 0,
+                });
             }
             if u < n - 2 {
-                return Loc::At(Saturation::None, u - 1);
+                return Some(Loc {
+                    sat: Saturation::None,
+                    origin: u - 1,
+                });
             }
             if u == n - 2 {
-                return Loc::At(Saturation::InsideHigh, n - 4);
+                return Some(Loc {
+                    sat: Saturation::InsideHigh,
+                    origin: n - 4,
+                });
             }
-            return Loc::At(Saturation::OutsideHigh, n - 4);
+            return Some(Loc {
+                sat: Saturation::OutsideHigh,
+                origin: n - 4,
+            });
         }
-        return Loc::Unrepresentable;
+        return None;
     }
     if q > -9223372036854775808.0 {
-        return Loc::At(Saturation::OutsideLow, 0);
+        return Some(Loc {
+            sat: Saturation::OutsideLow,
+            origin: 0,
+        });
     }
-    Loc::Unrepresentable
+    None
 }
 
-pub fn get_loc(n: usize, start: f64, step: f64, x: f64) -> Loc
+pub fn get_loc(n: usize, start: f64, step: f64, x: f64) -> Option<Loc>
     requires { 4 ≤ n }
     ensures { result ≡ get_loc binary64 n start step x }
 {

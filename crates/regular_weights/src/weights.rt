@@ -137,7 +137,9 @@ fn high_boundary_weight_derivatives(t: f64, linearize_extrapolation: bool) -> [f
     fold_high(cubic_bspline_weight_derivatives(t))
 }
 
-// The weights at a place. A place inside is never extended in a straight line.
+// The weights at a place. A place inside is never extended in a straight line. Out of the loops over the queries, which need it at
+// the ends of an axis alone.
+#[inline(never)]
 pub fn interp_weights(t: f64, sat: Saturation, linearize_extrapolation: bool) -> [f64; 4]
     ensures { result ≡ interp_weights binary64 linearize_extrapolation sat t }
 {

@@ -10,7 +10,7 @@ use Rattle.evaluation.proofs.Outcomes.{gradient-checks, gradient-whole, gradient
 use Rattle.evaluation.proofs.Same.{same-gradients}
 use Rattle.rectilinear_blocks.specs.Eval.{map_answer}
 use Rattle.rectilinear_map.proofs.Checks.{map-numbered, told-sound}
-use Rattle.rectilinear_map.proofs.Grids.{same_count, same_map, accepted}
+use Rattle.rectilinear_map.proofs.Grids.{same_count, same_map, same_size}
 use Rattle.rectilinear_map.proofs.batch.gradients.Goals as goal
 
 pub returns-in_err-check_map : goal.returns-in_err-check_map
@@ -50,21 +50,20 @@ pub grid_of-requires : goal.grid_of-requires
 grid_of-requires c =
     let a = c.args in
     let sound = told-sound a.map.count a.map.dims a.grid.now (length a.coeffs.now) (search rules) c.in_ok-check_map.ensures in
-    sound.gridded.shape
+    sound.gridded
 
 pub put_gradients-requires : goal.put_gradients-requires
 put_gradients-requires c =
     let a = c.args in
     let sound = told-sound a.map.count a.map.dims a.grid.now (length a.coeffs.now) (search rules) c.in_ok-check_map.ensures in
     let g = c.grid_of in
-    let same = same_count g.result g.ensures.1 in
+    let same = same_count g.result g.ensures.0 g.ensures.1 in
     let n = whole-batch (length a.out.now) a.map.count in
-    let w = accepted g.result g.ensures.1 g.ensures.0 sound in
-    (w.0, w.1, rw same (omega (arith, n, c.if-xs-out.false)), rw same (omega (arith, n)))
+    (same_size g.result g.ensures.0 g.ensures.1 sound.sized, rw same (omega (arith, n, c.if-xs-out.false)), rw same (omega (arith, n)))
 
 pub returns : goal.returns
 unfolding map_answer
 returns c =
     let a = c.args in
     let g = c.grid_of in
-    batch-entries (gradient-passed _ (length a.xs.now) (length a.out.now) (map-numbered a.map.count a.map.dims a.grid.now (length a.coeffs.now)) c.in_ok-check_map.ensures c.if-out-count-ne0.false c.if-xs-out.false) (same-gradients (same_map g.result g.ensures.1 binary64 a.grid.now a.coeffs.now) a.xs.now (length a.out.now / a.map.count) c.put_gradients.ensures)
+    batch-entries (gradient-passed _ (length a.xs.now) (length a.out.now) (map-numbered a.map.count a.map.dims a.grid.now (length a.coeffs.now)) c.in_ok-check_map.ensures c.if-out-count-ne0.false c.if-xs-out.false) (same-gradients (same_map g.result g.ensures.0 g.ensures.1 binary64 a.coeffs.now) a.xs.now (length a.out.now / a.map.count) c.put_gradients.ensures)

@@ -9,7 +9,7 @@ use Rattle.evaluation.proofs.Outcomes.{batch-checks, batch-length, batch-passed}
 use Rattle.evaluation.proofs.Same.{same-values}
 use Rattle.rectilinear_blocks.specs.Eval.{map_answer}
 use Rattle.rectilinear_map.proofs.Checks.{map-numbered, told-sound}
-use Rattle.rectilinear_map.proofs.Grids.{same_count, same_map, accepted}
+use Rattle.rectilinear_map.proofs.Grids.{same_count, same_map, same_size}
 use Rattle.rectilinear_map.proofs.batch.values.Goals as goal
 
 pub returns-in_err-check_map : goal.returns-in_err-check_map
@@ -36,19 +36,18 @@ pub grid_of-requires : goal.grid_of-requires
 grid_of-requires c =
     let a = c.args in
     let sound = told-sound a.map.count a.map.dims a.grid.now (length a.coeffs.now) (search rules) c.in_ok-check_map.ensures in
-    sound.gridded.shape
+    sound.gridded
 
 pub put_values-requires : goal.put_values-requires
 put_values-requires c =
     let a = c.args in
     let sound = told-sound a.map.count a.map.dims a.grid.now (length a.coeffs.now) (search rules) c.in_ok-check_map.ensures in
     let g = c.grid_of in
-    let w = accepted g.result g.ensures.1 g.ensures.0 sound in
-    (w.0, w.1, rw (same_count g.result g.ensures.1) (omega (arith, c.if-xs-map.false)), omega arith)
+    (same_size g.result g.ensures.0 g.ensures.1 sound.sized, rw (same_count g.result g.ensures.0 g.ensures.1) (omega (arith, c.if-xs-map.false)), omega arith)
 
 pub returns : goal.returns
 unfolding map_answer
 returns c =
     let a = c.args in
     let g = c.grid_of in
-    batch-entries (batch-passed _ (length a.xs.now) (length a.out.now) (map-numbered a.map.count a.map.dims a.grid.now (length a.coeffs.now)) c.in_ok-check_map.ensures c.if-xs-map.false) (same-values (same_map g.result g.ensures.1 binary64 a.grid.now a.coeffs.now) a.xs.now (length a.out.now) c.put_values.ensures)
+    batch-entries (batch-passed _ (length a.xs.now) (length a.out.now) (map-numbered a.map.count a.map.dims a.grid.now (length a.coeffs.now)) c.in_ok-check_map.ensures c.if-xs-map.false) (same-values (same_map g.result g.ensures.0 g.ensures.1 binary64 a.coeffs.now) a.xs.now (length a.out.now) c.put_values.ensures)

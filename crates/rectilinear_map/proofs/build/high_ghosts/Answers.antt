@@ -1,4 +1,4 @@
-use Rattle.rectilinear_blocks.specs.Records.{ghosts}
+use Rattle.rectilinear_blocks.specs.Ghosts.{ghosts}
 use Rattle.rectilinear_map.specs.Map.{high_ghosts}
 use Rattle.rectilinear_map.proofs.build.high_ghosts.Goals as goal
 

@@ -8,7 +8,7 @@ use Rattle.evaluation.proofs.Outcomes.{one-gradient-refused, one-checks, one-len
 use Rattle.evaluation.proofs.Same.{same-gradient}
 use Rattle.rectilinear_blocks.specs.Eval.{map_answer}
 use Rattle.rectilinear_map.proofs.Checks.{map-numbered, told-sound}
-use Rattle.rectilinear_map.proofs.Grids.{same_count, same_map, accepted}
+use Rattle.rectilinear_map.proofs.Grids.{same_count, same_map, same_size}
 use Rattle.rectilinear_map.proofs.eval.one_grad.Goals as goal
 
 pub returns-in_err-check_map : goal.returns-in_err-check_map
@@ -28,19 +28,18 @@ pub grid_of-requires : goal.grid_of-requires
 grid_of-requires c =
     let a = c.args in
     let sound = told-sound a.map.count a.map.dims a.grid.now (length a.coeffs.now) (search rules) c.in_ok-check_map.ensures in
-    sound.gridded.shape
+    sound.gridded
 
 pub gradient_at-requires : goal.gradient_at-requires
 gradient_at-requires c =
     let a = c.args in
     let sound = told-sound a.map.count a.map.dims a.grid.now (length a.coeffs.now) (search rules) c.in_ok-check_map.ensures in
     let g = c.grid_of in
-    let w = accepted g.result g.ensures.1 g.ensures.0 sound in
-    (w.0, w.1, omega (arith, c.if-x-map.false, same_count g.result g.ensures.1))
+    (same_size g.result g.ensures.0 g.ensures.1 sound.sized, omega (arith, c.if-x-map.false, same_count g.result g.ensures.0 g.ensures.1))
 
 pub returns : goal.returns
 unfolding map_answer
 returns c =
     let a = c.args in
     let g = c.grid_of in
-    one-gradient-answered _ a.x.now (map-numbered a.map.count a.map.dims a.grid.now (length a.coeffs.now)) c.in_ok-check_map.ensures c.if-x-map.false (same-gradient (same_map g.result g.ensures.1 binary64 a.grid.now a.coeffs.now) a.x.now c.gradient_at.ensures)
+    one-gradient-answered _ a.x.now (map-numbered a.map.count a.map.dims a.grid.now (length a.coeffs.now)) c.in_ok-check_map.ensures c.if-x-map.false (same-gradient (same_map g.result g.ensures.0 g.ensures.1 binary64 a.coeffs.now) a.x.now c.gradient_at.ensures)

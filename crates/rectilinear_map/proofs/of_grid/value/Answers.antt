@@ -30,16 +30,21 @@ strides_of-strides-requires c =
     let sound = told-sound a.count a.dims a.grid.now (length a.coeffs.now) (omega (arith, c.well_formed)) c.in_ok-check_map.ensures in
     sound.gridded.shape
 
-pub value_by_knots-requires : goal.value_by_knots-requires
-value_by_knots-requires c =
+pub invariant_of-map : goal.invariant_of-map
+invariant_of-map c =
     let a = c.args in
     let sound = told-sound a.count a.dims a.grid.now (length a.coeffs.now) (omega (arith, c.well_formed)) c.in_ok-check_map.ensures in
-    let g = sound in
-    ((record { shape = g.gridded.shape; four = omega (arith, c.well_formed); strides-are = c.strides_of-strides.ensures }, g.gridded), g.sized, omega (arith, c.if-x-count.false))
+    record { ready = record { shape = sound.gridded.shape; four = omega (arith, c.well_formed); strides-are = c.strides_of-strides.ensures }; gridded = sound.gridded }
+
+pub single_value-requires : goal.single_value-requires
+single_value-requires c =
+    let a = c.args in
+    let sound = told-sound a.count a.dims a.grid.now (length a.coeffs.now) (omega (arith, c.well_formed)) c.in_ok-check_map.ensures in
+    (sound.sized, omega (arith, c.if-x-count.false), omega arith)
 
 pub returns : goal.returns
 unfolding map_answer
 returns c =
     let a = c.args in
     made_one binary64 a.count a.dims a.grid.now a.linear a.coeffs.now (omega (arith, c.well_formed)) a.x.now
-    (one-answered _ a.x.now (map-numbered a.count a.dims a.grid.now (length a.coeffs.now)) c.in_ok-check_map.ensures c.if-x-count.false c.value_by_knots.ensures)
+    (one-answered _ a.x.now (map-numbered a.count a.dims a.grid.now (length a.coeffs.now)) c.in_ok-check_map.ensures c.if-x-count.false (c.single_value.ensures _))

@@ -55,11 +55,11 @@ put_gradients-requires c =
     let r = c.grid_of.result in
     let g = c.grid_of.ensures in
     let n = whole-batch (length a.out.now) m.count in
-    (g.0, same_size r g.1 (map-sized m.count m.dims m.steps _ c.in_ok-check_map.ensures), rw (same_count r g.1) (omega (arith, n, c.if-xs-out.false)), rw (same_count r g.1) (omega (arith, n)))
+    (same_size r g (map-sized m.count m.dims m.steps _ c.in_ok-check_map.ensures), rw (same_count r g) (omega (arith, n, c.if-xs-out.false)), rw (same_count r g) (omega (arith, n)))
 
 pub returns : goal.returns
 unfolding map_answer
 returns c =
     let a = c.args in
     let g = c.grid_of in
-    batch-entries (gradient-passed _ (length a.xs.now) (length a.out.now) (map-numbered a.map.count a.map.dims a.map.steps (length a.coeffs.now)) c.in_ok-check_map.ensures c.if-out-count-ne0.false c.if-xs-out.false) (same-gradients g.result g.ensures.1 binary64 a.coeffs.now a.xs.now (length a.out.now / a.map.count) c.put_gradients.ensures)
+    batch-entries (gradient-passed _ (length a.xs.now) (length a.out.now) (map-numbered a.map.count a.map.dims a.map.steps (length a.coeffs.now)) c.in_ok-check_map.ensures c.if-out-count-ne0.false c.if-xs-out.false) (same-gradients g.result g.ensures binary64 a.coeffs.now a.xs.now (length a.out.now / a.map.count) c.put_gradients.ensures)

@@ -41,11 +41,11 @@ put_values-requires c =
     let m = a.map in
     let r = c.grid_of.result in
     let g = c.grid_of.ensures in
-    (g.0, same_size r g.1 (map-sized m.count m.dims m.steps _ c.in_ok-check_map.ensures), rw (same_count r g.1) (omega (arith, c.if-xs-map.false)), omega arith)
+    (same_size r g (map-sized m.count m.dims m.steps _ c.in_ok-check_map.ensures), rw (same_count r g) (omega (arith, c.if-xs-map.false)), omega arith)
 
 pub returns : goal.returns
 unfolding map_answer
 returns c =
     let a = c.args in
     let g = c.grid_of in
-    batch-entries (batch-passed _ (length a.xs.now) (length a.out.now) (map-numbered a.map.count a.map.dims a.map.steps (length a.coeffs.now)) c.in_ok-check_map.ensures c.if-xs-map.false) (same-values g.result g.ensures.1 binary64 a.coeffs.now a.xs.now (length a.out.now) c.put_values.ensures)
+    batch-entries (batch-passed _ (length a.xs.now) (length a.out.now) (map-numbered a.map.count a.map.dims a.map.steps (length a.coeffs.now)) c.in_ok-check_map.ensures c.if-xs-map.false) (same-values g.result g.ensures binary64 a.coeffs.now a.xs.now (length a.out.now) c.put_values.ensures)

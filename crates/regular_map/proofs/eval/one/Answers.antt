@@ -32,10 +32,10 @@ pub value_at-requires : goal.value_at-requires
 value_at-requires c =
     let m = c.args.map in
     let g = c.grid_of.ensures in
-    (g.0, same_size c.grid_of.result g.1 (map-sized m.count m.dims m.steps _ c.in_ok-check_map.ensures), omega (arith, c.if-x-map.false, same_count c.grid_of.result g.1))
+    (same_size c.grid_of.result g (map-sized m.count m.dims m.steps _ c.in_ok-check_map.ensures), omega (arith, c.if-x-map.false, same_count c.grid_of.result g))
 
 pub returns : goal.returns
 unfolding map_answer
 returns c =
     let a = c.args in
-    one-answered _ a.x.now (map-numbered a.map.count a.map.dims a.map.steps (length a.coeffs.now)) c.in_ok-check_map.ensures c.if-x-map.false (same-value c.grid_of.result c.grid_of.ensures.1 binary64 _ a.x.now c.value_at.ensures)
+    one-answered _ a.x.now (map-numbered a.map.count a.map.dims a.map.steps (length a.coeffs.now)) c.in_ok-check_map.ensures c.if-x-map.false (same-value c.grid_of.result c.grid_of.ensures binary64 _ a.x.now c.value_at.ensures)

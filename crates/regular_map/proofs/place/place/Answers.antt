@@ -51,16 +51,16 @@ get_loc-requires c =
     let u = map-usable c.args.count c.args.dims c.args.steps _ c.in_ok-check_map.ensures (omega (arith, c.well_formed)) in
     u.four-points c.args.axis c.if-count-axis.false
 
-pub returns-in-At : goal.returns-in-At
-returns-in-At c =
+pub returns-in-Some : goal.returns-in-Some
+returns-in-Some c =
     let a = c.args in
     placed_at binary64 a.count a.dims a.starts a.steps a.axis a.x
     (record-passed a.count a.dims a.steps c.coeff_storage_len.ensures c.in_ok-check_map.ensures)
-    c.if-count-axis.false c.get_loc.ensures c.in-At.is
+    c.if-count-axis.false c.get_loc.ensures c.in-Some.is
 
-pub returns-in-Unrepresentable : goal.returns-in-Unrepresentable
-returns-in-Unrepresentable c =
+pub returns-in-None : goal.returns-in-None
+returns-in-None c =
     let a = c.args in
     placed-nowhere binary64 a.count a.dims a.starts a.steps a.axis a.x
     (record-passed a.count a.dims a.steps c.coeff_storage_len.ensures c.in_ok-check_map.ensures)
-    c.if-count-axis.false c.get_loc.ensures c.in-Unrepresentable.is
+    c.if-count-axis.false c.get_loc.ensures c.in-None.is

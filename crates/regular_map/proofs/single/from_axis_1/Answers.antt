@@ -1,37 +1,28 @@
-use mathlib.Core.Path.{refl, ◌∙◌}
-use native.Mathlib.Omega.{arith}
-use lib.Ieee.{binary64}
-use Rattle.regular_map.proofs.OneQuery.{looked-axis, looked-refused, looked-small, looked-on, last-reaches, last-value, turned-1}
+use Rattle.std.proofs.Common.{◌≡◌, [], ◌∷◌, refl, arith}
+use Rattle.std.specs.Float.{binary64}
+use Rattle.regular_map.proofs.OneQuery.{looked-refused, looked-small, looked-on, last-summable, last-value}
 use Rattle.regular_map.proofs.single.from_axis_1.Goals as goal
 
-pub seat_of-seat-requires : goal.seat_of-seat-requires
-seat_of-seat-requires c = looked-axis binary64 c.requires
+pub returns-in-None : goal.returns-in-None
+returns-in-None c = looked-refused binary64 c.requires c.axis-axis.ensures c.in-None.ensures
 
-pub returns-then-not-seat : goal.returns-then-not-seat
-returns-then-not-seat c = looked-refused binary64 c.requires c.seat_of-seat.ensures c.if-not-seat.true
-
-pub overflow_add-first : goal.overflow_add-first
-overflow_add-first c =
-    let q = last-reaches binary64 c.requires c.seat_of-seat.ensures c.if-not-seat.false c.weights_of-w1.ensures c.if-grid-eq2.true refl in
-    omega (arith, q.0, c.well_formed)
-
-pub sums_1-requires : goal.sums_1-requires
-sums_1-requires c =
-    let q = last-reaches binary64 c.requires c.seat_of-seat.ensures c.if-not-seat.false c.weights_of-w1.ensures c.if-grid-eq2.true refl in
-    omega (arith, q.0, q.1)
+pub value-requires : goal.value-requires
+value-requires c =
+    let w = c.requires in
+    let is : c.args.grid.count ≡ 2 = c.if-grid-eq2.true in
+    rw (← is) (last-summable binary64 w c.axis-axis.ensures c.in-Some.ensures.0 c.weights-w1.ensures is refl)
 
 pub returns-then-grid-eq2 : goal.returns-then-grid-eq2
 returns-then-grid-eq2 c =
-    last-value binary64 c.requires c.seat_of-seat.ensures c.if-not-seat.false c.weights_of-w1.ensures c.if-grid-eq2.true refl _ refl (c.sums_1.ensures ∙ turned-1 binary64 _ _ _ _ c.weights_of-w1.result c.weights_of-w1.result _ c.turn-turned.ensures (omega (arith, c.well_formed))) c.dot4.ensures
+    let w = c.requires in
+    let is : c.args.grid.count ≡ 2 = c.if-grid-eq2.true in
+    last-value binary64 w c.axis-axis.ensures c.in-Some.ensures.0 c.weights-w1.ensures is refl (c.weights-w1.result ∷ c.weights-w1.result ∷ []) refl (rw (← is) at c.value.ensures)
 
-pub overflow_mul-seat : goal.overflow_mul-seat
-overflow_mul-seat c =
-    omega (arith, looked-small binary64 c.requires c.seat_of-seat.ensures c.if-not-seat.false c.weights_of-w1.ensures)
+pub overflow_mul-origin : goal.overflow_mul-origin
+overflow_mul-origin c = omega (arith, looked-small binary64 c.requires c.axis-axis.ensures c.in-Some.ensures.0 c.weights-w1.ensures)
 
 pub overflow_add-first-2 : goal.overflow_add-first-2
-overflow_add-first-2 c =
-    omega (arith, looked-small binary64 c.requires c.seat_of-seat.ensures c.if-not-seat.false c.weights_of-w1.ensures)
+overflow_add-first-2 c = omega (arith, looked-small binary64 c.requires c.axis-axis.ensures c.in-Some.ensures.0 c.weights-w1.ensures)
 
 pub from_axis_2-requires : goal.from_axis_2-requires
-from_axis_2-requires c =
-    looked-on binary64 c.requires c.seat_of-seat.ensures c.if-not-seat.false c.weights_of-w1.ensures c.if-grid-eq2.false refl
+from_axis_2-requires c = looked-on binary64 c.requires c.axis-axis.ensures c.in-Some.ensures.0 c.weights-w1.ensures c.if-grid-eq2.false refl

@@ -1,48 +1,32 @@
-use mathlib.Core.Path.{◌≡◌, refl, ◌∙◌}
-use mathlib.Core.List.{[], ◌∷◌}
-use Prim.Native.Nat.{◌+◌, ◌*◌}
-use native.Mathlib.Omega.{arith}
-use lib.ListN.{get_or}
-use lib.Ieee.{binary64}
-use Rattle.interp_math.proofs.Tables.{lanes-none}
-use Rattle.regular_map.proofs.OneQuery.{looked-start, looked-axis, looked-refused, looked-small, looked-on, last-reaches, last-value}
+use Rattle.std.proofs.Common.{◌≡◌, [], ◌∷◌, ◌+◌, ◌*◌, get_or, refl, arith}
+use Rattle.std.specs.Float.{binary64}
+use Rattle.regular_map.proofs.OneQuery.{looked-start, looked-refused, looked-small, looked-on, last-summable, last-value}
 use Rattle.regular_map.proofs.single.value_at.Goals as goal
 
-pub seat_of-seat-requires : goal.seat_of-seat-requires
-seat_of-seat-requires c =
+pub returns-in-None : goal.returns-in-None
+returns-in-None c =
     let a = c.args in
-    let p = c.requires in
-    looked-axis binary64 (looked-start binary64 a.grid a.coeffs.now a.x.now p)
+    looked-refused binary64 (looked-start binary64 a.grid a.coeffs.now a.x.now c.requires.0 c.requires.1) c.axis-axis.ensures c.in-None.ensures
 
-pub returns-then-not-seat : goal.returns-then-not-seat
-returns-then-not-seat c =
+pub value-requires : goal.value-requires
+value-requires c =
     let a = c.args in
-    let p = c.requires in
-    looked-refused binary64 (looked-start binary64 a.grid a.coeffs.now a.x.now p) c.seat_of-seat.ensures c.if-not-seat.true
-
-pub neighbours-requires : goal.neighbours-requires
-neighbours-requires c =
-    let a = c.args in
-    let p = c.requires in
-    let q = last-reaches binary64 (looked-start binary64 a.grid a.coeffs.now a.x.now p) c.seat_of-seat.ensures c.if-not-seat.false c.weights_of-w0.ensures c.if-grid-eq1.true refl in
-    omega (arith, q.0, q.1)
+    let is : a.grid.count ≡ 1 = c.if-grid-eq1.true in
+    rw (← is) (last-summable binary64 (looked-start binary64 a.grid a.coeffs.now a.x.now c.requires.0 c.requires.1) c.axis-axis.ensures c.in-Some.ensures.0 c.weights-w0.ensures is (omega arith))
 
 pub returns-then-grid-eq1 : goal.returns-then-grid-eq1
 returns-then-grid-eq1 c =
     let a = c.args in
-    let p = c.requires in
-    let e : c.seat_of-seat.result.origin ≡ 0 + c.seat_of-seat.result.origin = omega arith in
-    last-value binary64 (looked-start binary64 a.grid a.coeffs.now a.x.now p) c.seat_of-seat.ensures c.if-not-seat.false c.weights_of-w0.ensures c.if-grid-eq1.true e ([] ∷ [] ∷ [] ∷ []) refl (c.neighbours.ensures ∙ lanes-none binary64 a.coeffs.now a.grid.strides _ _) c.dot4.ensures
+    let is : a.grid.count ≡ 1 = c.if-grid-eq1.true in
+    let r = c.weights-w0.result in
+    last-value binary64 (looked-start binary64 a.grid a.coeffs.now a.x.now c.requires.0 c.requires.1) c.axis-axis.ensures c.in-Some.ensures.0 c.weights-w0.ensures is (omega arith) (r ∷ r ∷ r ∷ []) refl (rw (← is) at c.value.ensures)
 
-pub overflow_mul-seat : goal.overflow_mul-seat
-overflow_mul-seat c =
+pub overflow_mul-origin : goal.overflow_mul-origin
+overflow_mul-origin c =
     let a = c.args in
-    let p = c.requires in
-    omega (arith, looked-small binary64 (looked-start binary64 a.grid a.coeffs.now a.x.now p) c.seat_of-seat.ensures c.if-not-seat.false c.weights_of-w0.ensures)
+    omega (arith, looked-small binary64 (looked-start binary64 a.grid a.coeffs.now a.x.now c.requires.0 c.requires.1) c.axis-axis.ensures c.in-Some.ensures.0 c.weights-w0.ensures)
 
 pub from_axis_1-requires : goal.from_axis_1-requires
 from_axis_1-requires c =
     let a = c.args in
-    let p = c.requires in
-    let e : c.seat_of-seat.result.origin * get_or a.grid.strides 0 0 ≡ 0 + c.seat_of-seat.result.origin * get_or a.grid.strides 0 0 = omega arith in
-    looked-on binary64 (looked-start binary64 a.grid a.coeffs.now a.x.now p) c.seat_of-seat.ensures c.if-not-seat.false c.weights_of-w0.ensures c.if-grid-eq1.false e
+    looked-on binary64 (looked-start binary64 a.grid a.coeffs.now a.x.now c.requires.0 c.requires.1) c.axis-axis.ensures c.in-Some.ensures.0 c.weights-w0.ensures c.if-grid-eq1.false (omega arith)

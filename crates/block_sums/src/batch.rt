@@ -1,0 +1,65 @@
+// The queries of a batch, block after block of 32, in the buffers of a block. A batch that is refused at an entry has written the
+// entries before it and none from it on.
+ghost use Rattle.std.specs.Prelude.{◌≡◌, List, ◌*◌, ◌≤◌, length, take};
+ghost use Rattle.std.specs.Float.{binary64};
+ghost use Rattle.shape.specs.Checks.{Check};
+ghost use Rattle.shape.specs.Refusal.{answer_number};
+ghost use Rattle.shape.specs.Shape.{size};
+ghost use Rattle.evaluation.specs.ByAxis.{spline_of};
+ghost use Rattle.evaluation.specs.Entries.{ValueEntries, GradientEntries};
+
+use crate::block::{gradients_block, values_block};
+use evaluation::{Axis, Map, Span, Spot, block_size};
+use shape::Refusal;
+
+// The values of n queries, up to the first that is refused.
+pub fn value_batch<M: Map>(
+    map: &M,
+    coeffs: &[f64],
+    xs: &[f64],
+    n: usize,
+    places: &mut [<M::Along as Axis>::Place],
+    spots: &mut [Spot],
+    out: &mut [f64],
+) -> Result<(), Refusal>
+    requires sized { length coeffs.now ≡ size (take (M.view map.now).count (M.view map.now).lens) }
+    requires room { ((M.view map.now).count * n ≤ length xs.now) × (32 ≤ length places.old) × (32 ≤ length spots.old) × (n ≤ length out.old) }
+    ensures { (checks : List Check) → ValueEntries (spline_of binary64 (M.view map.now) checks coeffs.now) xs.now n out.old (answer_number result) out.new }
+{
+    let mut from: usize = 0;
+    while from < n {
+        let m = block_size(from, n);
+        let s = Span { xs, n, from, m };
+        if values_block(map, coeffs, s, places, spots, out) < m {
+            return Err(Refusal::Unrepresentable);
+        }
+        from += m;
+    }
+    Ok(())
+}
+
+// Their gradients.
+pub fn gradient_batch<M: Map>(
+    map: &M,
+    coeffs: &[f64],
+    xs: &[f64],
+    n: usize,
+    places: &mut [<M::Along as Axis>::Place],
+    spots: &mut [Spot],
+    out: &mut [f64],
+) -> Result<(), Refusal>
+    requires sized { length coeffs.now ≡ size (take (M.view map.now).count (M.view map.now).lens) }
+    requires room { ((M.view map.now).count * n ≤ length xs.now) × (32 ≤ length places.old) × (32 ≤ length spots.old) × ((M.view map.now).count * n ≤ length out.old) }
+    ensures { (checks : List Check) → GradientEntries (spline_of binary64 (M.view map.now) checks coeffs.now) xs.now n out.old (answer_number result) out.new }
+{
+    let mut from: usize = 0;
+    while from < n {
+        let m = block_size(from, n);
+        let s = Span { xs, n, from, m };
+        if gradients_block(map, coeffs, s, places, spots, out) < m {
+            return Err(Refusal::Unrepresentable);
+        }
+        from += m;
+    }
+    Ok(())
+}
