@@ -5,7 +5,6 @@ ghost use Rattle.shape.specs.Shape.{size};
 ghost use Rattle.shape.specs.Checks.{first_refusal, length_check, scratch_check};
 ghost use Rattle.shape.specs.Refusal.{answer_number};
 
-use crate::bytes::clear;
 use shape::{Axes, Refusal};
 
 // 2 for the length of the coefficients, then for that of the ledger.
@@ -61,5 +60,5 @@ pub fn start(vals: &[f64], coeffs: &mut [f64], ledger: &mut [u8])
     ensures { (coeffs.new ≡ vals.now) × (ledger.new ≡ replicate (length ledger.old) 0) }
 {
     coeffs.copy_from_slice(vals);
-    clear(ledger);
+    ledger.fill(0);
 }
