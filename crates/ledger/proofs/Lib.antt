@@ -1,4 +1,3 @@
 pub mod Stages
 pub mod DueBytes
-pub mod Cleared
 pub mod Others

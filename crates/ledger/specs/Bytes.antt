@@ -1,5 +1,5 @@
 -- The bytes of a line, and what a search for a line that is due finds. For contracts inside the library. Assumes nothing.
-use Rattle.std.specs.Prelude.{Result, Ok, Err, ◌≡◌, Bool, not, List, ℕ, ◌<◌, eqb}
+use Rattle.std.specs.Prelude.{Result, Ok, Err, ◌≡◌, List, ℕ, ◌<◌}
 use Rattle.shape.specs.Cells.{line}
 use Rattle.shape.specs.Checks.{first_refusal}
 use Rattle.shape.specs.Refusal.{refusal_number}
@@ -7,10 +7,6 @@ use Rattle.shape.specs.Line.{LineIs}
 use Rattle.shape.specs.declared.answers.Refusal.{Refusal}
 use Rattle.shape.specs.declared.line.Line.{Line}
 use Rattle.book.specs.LineCall.{due_checks}
-
--- the byte of entry i of a line is not a
-abbrev pub byte_other : ℕ → ℕ → ℕ → List ℕ → ℕ → Bool
-byte_other a base stride ledger i = not (eqb (line 0 base stride ledger i) a)
 
 -- each byte of a line is a
 abbrev pub EachByte : ℕ → Line → List ℕ → Type 0

@@ -5,7 +5,6 @@ ghost use Rattle.shape.specs.Shape.{size};
 ghost use Rattle.shape.specs.Checks.{first_refusal, length_check, scratch_check};
 ghost use Rattle.shape.specs.Refusal.{answer_number};
 
-use crate::bytes::clear;
 use multibspline::copy;
 use shape::{Axes, Refusal};
 
@@ -62,5 +61,5 @@ pub fn start(vals: &[f64], coeffs: &mut [f64], ledger: &mut [u8])
     ensures { (coeffs.new ≡ vals.now) × (ledger.new ≡ replicate (length ledger.old) 0) }
 {
     copy(vals, coeffs);
-    clear(ledger);
+    ledger.fill(0);
 }

@@ -12,16 +12,17 @@ use lib.Seq.{drop-cons, take_all, take-suc-set, append_snoc}
 use borrow.Author.Tests.{ne_eqb}
 use Rattle.shape.specs.Shape.{longest, size, points, stride}
 use Rattle.shape.specs.Checks.{Check, first_refusal, length_check, Positive}
-use Rattle.shape.specs.Fit.{solve_line, line_scratch, along}
+use Rattle.shape.specs.Fit.{solve_line, line_scratch, along, Looks}
 use Rattle.shape.specs.Refusal.{refusal_number}
 use Rattle.shape.specs.declared.answers.Refusal.{Refusal}
 use Rattle.shape.specs.Line.{LineIs, LineInside, LineFits}
 use Rattle.shape.specs.declared.line.Line.{Line}
-use Rattle.shape.proofs.Accepted.{refusal-append, passed-append, positive-append}
+use Rattle.shape.proofs.Accepted.{usable, axes-are, refusal-append, passed-append, positive-append}
 use Rattle.shape.proofs.Found.{on-axis, line-inside, line-fits}
 use Rattle.book.specs.LineCall.{Call, State, due_checks, bumped, begin_checks, begin_answer, call_checks, call_answer, line_call, call_scratch, after, answers, begun}
 use Rattle.book.specs.Order.{Claim}
 use Rattle.book.proofs.Answers.{begin-passed}
+use Rattle.book.proofs.Order.{order-never-shows}
 use Rattle.book.proofs.SameLengths.{length-coefs, length-ledger, length-call-scratch}
 use Rattle.stepwise.specs.Calls.{task_list, Begun, list_checks, LineCalled, task_scratch, OneRan, ListRan, Ran}
 use Rattle.ledger.specs.Bytes.{EachByte}
@@ -257,3 +258,15 @@ module _ {count : ℕ} {lens : List ℕ} {grid knots : List Check} (pg : Positiv
           tells = w.tells ∙ ap (answers count lens grid knots o solve (task_list axes lines scratch)) from ∙ claim.same-answers;
           agrees = λ z. rw leaves claim.agrees;
         }
+
+-- ---- demand 3, for any grid: where its checks have passed, a line of an axis of four points looks at its own samples only
+
+pub spaced-order : {A : Type 0} (o : A) (solve : ℕ → (ℕ → A) → ℕ → A) (count : ℕ) (lens : List ℕ) → length lens ≡ 4 → (grid knots : List Check) → Positive grid → Positive knots
+    → ((a : ℕ) → a < length (take count lens) → first_refusal grid ≡ 0 → 4 ≤ points (take count lens) a → Looks (solve a) (points (take count lens) a))
+    → (samples : List A) (coefs ledger scratch : ℕ) → begin_answer count lens grid knots (length samples) coefs ledger scratch ≡ 0 → (calls : List (Call A))
+    → Claim o solve count lens grid knots samples calls
+spaced-order {A} o solve count lens four grid knots pg pk looks samples coefs ledger scratch e calls =
+    let p = begin-passed count lens grid knots pg pk (length samples) coefs ledger scratch e in
+    let u = usable count lens four p.ready.shape-passed in
+    order-never-shows A o solve count lens grid knots four pg pk
+    (λ a ha long. looks a (rw (axes-are count lens four u) ha) p.ready.grid-passed long) samples coefs ledger scratch e calls

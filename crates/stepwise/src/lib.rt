@@ -2,12 +2,15 @@
 // caller lends the ledger, one byte a cell: how many of the lines through it, axis 0 first, are solved.
 #![tactic(auto)]
 
-mod rectilinear_list;
+mod list;
 mod rectilinear_steps;
-mod regular_list;
 mod regular_steps;
+mod spacing;
+mod steps;
 
-pub use rectilinear_list::fit_rectilinear_by_list;
-pub use rectilinear_steps::{begin_rectilinear, begin_rectilinear_by_len, solve_rectilinear_line};
-pub use regular_list::fit_regular_by_list;
-pub use regular_steps::{begin_regular, begin_regular_by_len, solve_regular_line};
+pub use rectilinear_steps::{
+    begin_rectilinear, begin_rectilinear_by_len, fit_rectilinear_by_list, solve_rectilinear_line,
+};
+pub use regular_steps::{
+    begin_regular, begin_regular_by_len, fit_regular_by_list, solve_regular_line,
+};

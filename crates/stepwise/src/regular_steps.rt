@@ -1,44 +1,49 @@
-// Begin and the line call on a regular grid.
-ghost use Rattle.std.specs.Prelude.{◌≡◌, [], length};
+// Stepwise fitting on a regular grid: begin, the line call, the task list.
+ghost use Rattle.std.specs.Prelude.{[], length};
 ghost use Rattle.std.specs.Float.{binary64};
-ghost use Rattle.shape.specs.Checks.{first_refusal};
-ghost use Rattle.shape.specs.Axes.{AxesOnce};
+ghost use Rattle.shape.specs.Shape.{points};
 ghost use Rattle.shape.specs.Refusal.{answer_number};
-ghost use Rattle.ledger.specs.Ready.{ready_checks, call_ready_checks};
-ghost use Rattle.book.specs.LineCall.{begin_answer, call_of, state_of};
-ghost use Rattle.stepwise.specs.Regular.{RegularBegun, RegularLineCalled};
+ghost use Rattle.regular_lines.specs.Rows.{system};
+ghost use Rattle.regular_lines.proofs.Rows.{looks-coefficient};
+ghost use Rattle.book.specs.LineCall.{call_of, state_of};
+ghost use Rattle.stepwise.specs.Regular.{RegularBegun, RegularLineCalled, RegularRan};
 
-use fits::solve_found;
-use ledger::{bump_line, check_held, check_lent, check_scratch, find_due, start};
+use crate::list::fit_by_list;
+use crate::spacing::Spacing;
+use crate::steps::{begin, solve_line};
 use regular::RegularGrid;
 use shape::{Axes, Refusal, Shape};
 
-// ---- what begin and the line call check first
+// The points of an axis are evenly spaced: its length says all of it, and there is nothing more to check.
+#[derive(Clone, Copy)]
+struct Even;
 
-// The shape, and the lengths of the coefficients and the ledger.
-fn check_ready(shape: Shape, coeffs: usize, ledger: usize) -> Result<Axes, Refusal>
-    ensures { AxesOnce (first_refusal (ready_checks shape.count shape.dims [] [] coeffs ledger)) shape.count shape.dims result }
-{
-    let axes = shape.axes()?;
-    check_held(axes, coeffs, ledger)?;
-    Ok(axes)
-}
+impl Spacing for Even {
+    type Accepted = RegularGrid;
 
-// ---- begin
+    ghost grid_checks = { λ spacing dims. [] };
 
-// The checks of begin, from the lengths of its buffers.
-pub fn check_begin(
-    shape: Shape,
-    vals: usize,
-    coeffs: usize,
-    ledger: usize,
-    scratch: usize,
-) -> Result<Axes, Refusal>
-    ensures { AxesOnce (begin_answer shape.count shape.dims [] [] vals coeffs ledger scratch) shape.count shape.dims result }
-{
-    let axes = check_ready(shape, coeffs, ledger)?;
-    check_lent(axes, vals, scratch)?;
-    Ok(axes)
+    ghost knots_checks = { λ spacing dims. [] };
+
+    ghost rows = { λ spacing dims a. system binary64 (points dims a) };
+
+    fn check_grid(self, axes: Axes) -> Result<(), Refusal> {
+        Ok(())
+    }
+
+    fn check_knots(self, axes: Axes) -> Result<(), Refusal> {
+        Ok(())
+    }
+
+    fn grid(self, axes: Axes) -> RegularGrid {
+        RegularGrid { axes }
+    }
+
+    ghost grid_positive = { λ spacing dims. tt };
+
+    ghost knots_positive = { λ spacing dims. tt };
+
+    ghost looks = { λ spacing dims a inside passed long. looks-coefficient binary64 (points dims a) long };
 }
 
 // Begins a stepwise fit, with scratch by its length: begin writes nothing to it.
@@ -51,9 +56,7 @@ pub fn begin_regular_by_len(
 ) -> Result<(), Refusal>
     ensures { RegularBegun shape.count shape.dims vals.now (state_of coeffs.old ledger.old) scratch (answer_number result) (state_of coeffs.new ledger.new) }
 {
-    check_begin(shape, vals.len(), coeffs.len(), ledger.len(), scratch)?;
-    start(vals, coeffs, ledger);
-    Ok(())
+    begin(shape, Even, vals, coeffs, ledger, scratch)
 }
 
 // Begins a stepwise fit: the samples are copied to `coeffs`, and the ledger is zeroed. `vals`, `coeffs` and `ledger` have one
@@ -74,37 +77,6 @@ pub fn begin_regular(
     begin_regular_by_len(shape, vals, coeffs, ledger, scratch.len())
 }
 
-// ---- the line call
-
-// All that a line call checks but the line itself, from the lengths of its buffers.
-fn check_call(shape: Shape, coeffs: usize, ledger: usize, scratch: usize) -> Result<Axes, Refusal>
-    ensures { AxesOnce (first_refusal (call_ready_checks shape.count shape.dims [] [] coeffs ledger scratch)) shape.count shape.dims result }
-{
-    let axes = check_ready(shape, coeffs, ledger)?;
-    check_scratch(axes, scratch)?;
-    Ok(axes)
-}
-
-// A line call whose other checks have passed: what is left to check is the line.
-pub fn call_ready(
-    axes: Axes,
-    axis: usize,
-    line: usize,
-    coeffs: &mut [f64],
-    ledger: &mut [u8],
-    scratch: &mut [f64],
-) -> Result<(), Refusal>
-    requires { first_refusal (call_ready_checks axes.count axes.dims [] [] (length coeffs.old) (length ledger.old) (length scratch.old)) ≡ 0 }
-    ensures { RegularLineCalled binary64 axes.count axes.dims (call_of axis line scratch.old)
-        (state_of coeffs.old ledger.old) (answer_number result)
-        (state_of coeffs.new ledger.new) scratch.new }
-{
-    let found = find_due(axes, axis, line, ledger)?;
-    solve_found(RegularGrid { axes }, axis, found, coeffs, scratch);
-    bump_line(axis, found, ledger);
-    Ok(())
-}
-
 // Solves one line that is due: its cells of `coeffs` become its coefficients, and 1 is added to its ledger bytes. No other
 // coefficient or byte changes; `scratch` is left with the line's numbers. A line of axis a is due when each of its bytes is a.
 // Answers the first of these refusals, with nothing written: 1, the axis count is not 1 to 4; 2, an axis has fewer than 4
@@ -123,6 +95,28 @@ pub fn solve_regular_line(
         (state_of coeffs.old ledger.old) (answer_number result)
         (state_of coeffs.new ledger.new) scratch.new }
 {
-    let axes = check_call(shape, coeffs.len(), ledger.len(), scratch.len())?;
-    call_ready(axes, axis, line, coeffs, ledger, scratch)
+    solve_line(shape, Even, axis, line, coeffs, ledger, scratch)
+}
+
+// Begins a fit and makes a list of line calls, one after the other: call i solves line `lines[i]` of axis `axes[i]`, and its
+// answer goes into `answers[i]`, 0 where the line was solved. The list may have any order and any length, and a refused call
+// changes nothing; the fit is finished when every ledger byte is the axis count. Answers the first of these refusals, with
+// nothing written: those of `begin_regular`; then 2, the length of `lines` is not that of `axes`; 2, nor is that of `answers`.
+pub fn fit_regular_by_list(
+    shape: Shape,
+    vals: &[f64],
+    axes: &[usize],
+    lines: &[usize],
+    coeffs: &mut [f64],
+    ledger: &mut [u8],
+    scratch: &mut [f64],
+    answers: &mut [u8],
+) -> Result<(), Refusal>
+    ensures { RegularRan binary64 shape.count shape.dims vals.now axes.now lines.now
+        (state_of coeffs.old ledger.old) scratch.old answers.old (answer_number result)
+        (state_of coeffs.new ledger.new) scratch.new answers.new }
+{
+    fit_by_list(
+        shape, Even, vals, axes, lines, coeffs, ledger, scratch, answers,
+    )
 }
