@@ -113,10 +113,6 @@ module _ (count : ℕ) (lens : List ℕ) (grid knots : List Check) (coefs ledger
       pub at-knots : first_refusal held ≡ 0 → {n : ℕ} → n ≡ first_refusal knots → Answered n
       at-knots held-ok e = e ∙ sym (after-grid ∙ passed-append held knots (omega arith, (omega arith, tt)) held-ok)
 
-  -- a grid with no checks of its own
-  pub at_last : (grid ≡ []) × (knots ≡ []) → first_refusal (shape_checks count lens) ≡ 0 → {n : ℕ} → n ≡ first_refusal held → Answered n
-  at_last none ok e = e ∙ sym (after-shape ok ∙ rw (none.0, none.1))
-
   -- where all pass
   module _ (pg : Positive grid) (pk : Positive knots) where
     ready-positive : Positive (ready_checks count lens grid knots coefs ledger)

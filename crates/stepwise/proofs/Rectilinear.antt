@@ -4,7 +4,7 @@ use mathlib.Core.Bool.{Bool, true, false, not}
 use mathlib.Core.List.{List, []}
 use Prim.Native.Nat.{ℕ}
 use lib.ListN.{length, take}
-use lib.Ieee.{Float, Format, nan}
+use lib.Ieee.{Float, nan}
 use Rattle.shape.specs.Checks.{first_refusal}
 use Rattle.shape.specs.Usable.{Usable}
 use Rattle.shape.proofs.Accepted.{axes-are}
