@@ -16,14 +16,6 @@ abbrev pub RectilinearLineCalled : Format → ℕ → List ℕ → List Float �
 RectilinearLineCalled f count lens grid call state answer state' scratch' =
     Calls.LineCalled count lens (grid_check (take count lens) grid) (knots_check (take count lens) grid) nan (upper f grid (take count lens)) (solve f grid (take count lens)) call state answer state' scratch'
 
-abbrev pub RectilinearOneRan : Format → ℕ → List ℕ → List Float → Call Float → ℕ → State Float → List ℕ → State Float → List Float → List ℕ → Type 0
-RectilinearOneRan f count lens grid call i state told state' scratch' told' =
-    Calls.OneRan count lens (grid_check (take count lens) grid) (knots_check (take count lens) grid) nan (upper f grid (take count lens)) (solve f grid (take count lens)) call i state told state' scratch' told'
-
-abbrev pub RectilinearListRan : Format → ℕ → List ℕ → List Float → List ℕ → List ℕ → State Float → List Float → State Float → List Float → List ℕ → Type 0
-RectilinearListRan f count lens grid axes lines state scratch state' scratch' told' =
-    Calls.ListRan count lens (grid_check (take count lens) grid) (knots_check (take count lens) grid) nan (upper f grid (take count lens)) (solve f grid (take count lens)) axes lines state scratch state' scratch' told'
-
 abbrev pub RectilinearRan : Format → ℕ → List ℕ → List Float → List Float → List ℕ → List ℕ → State Float → List Float → List ℕ → ℕ → State Float → List Float → List ℕ → Type 0
 RectilinearRan f count lens grid samples axes lines state scratch told answer state' scratch' told' =
     Calls.Ran count lens (grid_check (take count lens) grid) (knots_check (take count lens) grid) nan (upper f grid (take count lens)) (solve f grid (take count lens)) samples axes lines state scratch told answer state' scratch' told'

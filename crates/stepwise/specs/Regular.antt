@@ -13,14 +13,6 @@ abbrev pub RegularLineCalled : Format → ℕ → List ℕ → Call Float → St
 RegularLineCalled f count lens call state answer state' scratch' =
     Calls.LineCalled count lens [] [] nan (upper f (take count lens)) (solve f (take count lens)) call state answer state' scratch'
 
-abbrev pub RegularOneRan : Format → ℕ → List ℕ → Call Float → ℕ → State Float → List ℕ → State Float → List Float → List ℕ → Type 0
-RegularOneRan f count lens call i state told state' scratch' told' =
-    Calls.OneRan count lens [] [] nan (upper f (take count lens)) (solve f (take count lens)) call i state told state' scratch' told'
-
-abbrev pub RegularListRan : Format → ℕ → List ℕ → List ℕ → List ℕ → State Float → List Float → State Float → List Float → List ℕ → Type 0
-RegularListRan f count lens axes lines state scratch state' scratch' told' =
-    Calls.ListRan count lens [] [] nan (upper f (take count lens)) (solve f (take count lens)) axes lines state scratch state' scratch' told'
-
 abbrev pub RegularRan : Format → ℕ → List ℕ → List Float → List ℕ → List ℕ → State Float → List Float → List ℕ → ℕ → State Float → List Float → List ℕ → Type 0
 RegularRan f count lens samples axes lines state scratch told answer state' scratch' told' =
     Calls.Ran count lens [] [] nan (upper f (take count lens)) (solve f (take count lens)) samples axes lines state scratch told answer state' scratch' told'
