@@ -196,9 +196,12 @@ def named():
     return {(row[0].strip("| `"), name) for row in rows if len(row) > 2 for name in re.findall(r"`([^`]+)`", row[1])}
 
 
+def spellings(item):
+    return {(item.crate, item.name), (item.crate, "%s::%s" % (pathlib.PurePath(item.file).stem, item.name))}
+
+
 def is_named(item, gone):
-    spellings = (item.name, "%s::%s" % (pathlib.PurePath(item.file).stem, item.name))
-    return any((item.crate, name) in gone for name in spellings)
+    return bool(spellings(item) & gone)
 
 
 def pairs(commit):
@@ -256,8 +259,11 @@ def print_gone(found):
     missing = [g for g in gone if not is_named(g, known)]
     for g in missing:
         print("%s %s/%s %s" % (g.kind, g.crate, g.file, g.name))
+    unknown = known - {name for old, _ in found for name in spellings(old)}
+    for name in sorted(unknown):
+        print("named, but never stood: %s %s" % name)
     print("%d gone, %d of them not named in %s" % (len(gone), len(missing), PAGE.name))
-    return 1 if missing else 0
+    return 1 if missing or unknown else 0
 
 
 def print_moved(found):
