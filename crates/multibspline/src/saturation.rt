@@ -17,7 +17,7 @@ pub enum Saturation {
 }
 
 // What may be taken, weights or slopes: those of an inner span, and those of an end, gone on from it in a straight line or not.
-pub trait AtPlace: Copy {
+pub trait AtPlace {
     ghost inner: { Self → List Float };
 
     ghost low: { Self → Bool → List Float };
