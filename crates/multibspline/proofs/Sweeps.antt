@@ -25,8 +25,8 @@ module _ {vs l₀ : List Float} where
   pub same_start : Same vs l₀ l₀ 0
   same_start = record { length-l = refl; below = (λ k h. absurd (omega (arith, h))) }
 
-  pub same_step : {l : List Float} {i : ℕ} → Same vs l₀ l i → i < length vs → length vs ≡ length l₀ → Same vs l₀ (set l i (at vs i)) (i + 1)
-  same_step {l} {i} s h len = record {
+  pub same_step : {l : List Float} {i : ℕ} → Same vs l₀ l i → i < length l₀ → Same vs l₀ (set l i (at vs i)) (i + 1)
+  same_step {l} {i} s h = record {
     length-l = length-set l i _ ∙ s.length-l;
     below = (λ k p.
         ⊎_elim
@@ -35,7 +35,7 @@ module _ {vs l₀ : List Float} where
         (eq-or-lt_of_le (omega arith)));
   }
 
-  pub same-done : {l : List Float} {i : ℕ} → Same vs l₀ l i → length vs ≤ i → length vs ≡ length l₀ → l ≡ vs
+  pub same-done : {l : List Float} {i : ℕ} → Same vs l₀ l i → length l₀ ≤ i → length vs ≡ length l₀ → l ≡ vs
   same-done {l} s h len = ext_get_or nan l vs (s.length-l ∙ sym len) (λ k p. s.below k (omega (arith, s.length-l)))
 
 -- ---- forward elimination: the rows below i are reduced, and r is the last of them. s₀ holds row 0, as s did not
