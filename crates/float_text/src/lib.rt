@@ -70,8 +70,8 @@ pub fn read_float(text: &[u8]) -> Option<f64>
     read_bits(text).map(float_of)
 }
 
-// The lowest digits of a number to a base, as many as `out` holds; `unit` is the weight of the highest. Into the caller's bytes and to
-// any base, where `{:016x}` writes to a base that stands in the format.
+// The lowest digits of a number to a base, as many as `out` holds; `unit` is the weight of the highest. Into the caller's bytes
+// and to any base, where `{:016x}` writes to a base that stands in the format.
 pub fn put_digits(n: u64, base: u64, unit: u64, out: &mut [u8])
     requires { (0 < base) × (base ≤ 16) × (n < base ^ length out.old) × (unit ≡ base ^ length out.old / base) }
     ensures { out.new ≡ digits_of base (length out.old) n }

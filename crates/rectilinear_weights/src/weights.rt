@@ -21,8 +21,8 @@ use multibspline::{AtPlace, Saturation, by_place};
 use rectilinear_basis::basis_span_weights;
 use rectilinear_slopes::basis_span_weight_derivatives;
 
-// What the ghost coefficient of an end adds to the three stored ones beside it. The low end's stands before the row and the high
-// end's after it, so that no entry of the two comes from the same two numbers.
+// The folds stand once for each end: which entry is zero and which ones are added to differs, not a number, so that one
+// function for both ends would hold both formulas.
 
 // The low ghost coefficient, folded into the stored ones.
 fn fold_low(low_ghost: Ghost, raw: [f64; 4]) -> [f64; 4]
@@ -117,7 +117,8 @@ impl Asked for Slopes {
 // The low end: interpn's low_boundary_weights and low_boundary_weight_derivatives.
 fn low_end<A: Asked>(asked: A, grid: &[f64], x: f64, straight: bool, low_ghost: Ghost) -> [f64; 4]
     requires { 4 ≤ length grid.now }
-    ensures { result ≡ fold_low binary64 (ghost_numbers low_ghost) (cond straight (A.line grid.now 0 (at grid.now 0) x) (A.on_span grid.now 0 x)) }
+    ensures { result ≡ fold_low binary64 (ghost_numbers low_ghost)
+        (cond straight (A.line grid.now 0 (at grid.now 0) x) (A.on_span grid.now 0 x)) }
 {
     if straight {
         return fold_low(low_ghost, asked.line(grid, 0, grid[0], x));
@@ -128,8 +129,8 @@ fn low_end<A: Asked>(asked: A, grid: &[f64], x: f64, straight: bool, low_ghost: 
 // The high end likewise.
 fn high_end<A: Asked>(asked: A, grid: &[f64], x: f64, straight: bool, high_ghost: Ghost) -> [f64; 4]
     requires { 4 ≤ length grid.now }
-    ensures { result ≡ fold_high binary64 (ghost_numbers high_ghost)
-        (cond straight (A.line grid.now (length grid.now - 2) (at grid.now (length grid.now - 1)) x) (A.on_span grid.now (length grid.now - 2) x)) }
+    ensures { let n = length grid.now in result ≡ fold_high binary64 (ghost_numbers high_ghost)
+        (cond straight (A.line grid.now (n - 2) (at grid.now (n - 1)) x) (A.on_span grid.now (n - 2) x)) }
 {
     let n = grid.len();
     if straight {

@@ -48,8 +48,8 @@ fn cubic_bspline_weight_derivatives(t: f64) -> [f64; 4]
     ]
 }
 
-// The straight lines from the two ends, and the ghost coefficients of the two, folded in: of the low end and of the high end they
-// are formulas of their own, with no factor or place in which alone they differ.
+// Straight lines and folds stand once for each end: which entry is zero and which ones are added to differs, not a number, so
+// that one function for both ends would hold both formulas.
 
 // The straight line from the low end.
 fn low_linearized_boundary_weights(t: f64) -> [f64; 4]
