@@ -96,7 +96,8 @@ fn has_room(at: usize, out: &[u8]) -> bool
 #[derive(Clone, Copy, Debug, PartialEq, Eq)]
 pub struct NoRoom;
 
-// Writes 64 bits as 16 digits into `out` from `at` on. Where there is no room `out` stays as it was.
+// Writes 64 bits as 16 digits into `out` from `at` on. Where there is no room `out` stays as it was. The place is handed beside
+// the buffer, so that one past its end is refused here, where the caller's slice from there on would fail.
 pub fn write_bits(bits: u64, at: usize, out: &mut [u8]) -> Result<(), NoRoom>
     ensures { Written (bits_text bits) at out.old (is_ok result) out.new }
 {
