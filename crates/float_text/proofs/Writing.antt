@@ -1,14 +1,14 @@
 -- Digits are written one after the other. Assumes nothing.
 use mathlib.Core.Path.{◌≡◌, refl, sym, ap, ◌∙◌}
-use mathlib.Core.Bool.{Bool, true, false}
+use mathlib.Core.Bool.{Bool, true}
 use mathlib.Core.List.{List, ◌∷◌, ◌++◌, append-nil}
 use Prim.Native.Nat.{ℕ, zero, suc, ◌+◌, ◌-◌, ◌/◌, ◌%◌, ◌^◌, ◌≤◌, ◌<◌}
 use native.Mathlib.Nat.{zero-add, pow-suc, pow-succ', mul-div_cancel, one-le-pow, mod-lt, div-lt_iff_lt-mul, lt_of_lt_of_le}
 use native.Mathlib.Numerals.{add-one}
 use native.Mathlib.Omega.{arith}
-use lib.Dec.{leb, lit<, lit≤}
+use lib.Dec.{leb}
 use lib.ListN.{length, take, drop, length-take, length-drop, set, get_or, length-set, drop_of_length-le}
-use lib.Seq.{drop-cons, paste, paste-zero, paste-suc}
+use lib.Seq.{drop-cons, paste, paste-suc}
 use Rattle.std.proofs.lemmas.List.Edits.{paste_all}
 use Rattle.std.proofs.lemmas.Slice.{put_mid-paste}
 use borrow.Rule.Slice.PartMut.{put_mid}
@@ -29,19 +29,6 @@ pub record Printing (base n : ℕ) (old new : List ℕ) (left weight i : ℕ) : 
   pub below : left < base ^ (length old - i)
   pub rest : drop i (digits_of base (length old) n) ≡ digits_of base (length old - i) left
   pub buffer : new ≡ paste old 0 (digits_of base (length old) n) i
-
-pub Printing-start : (base n : ℕ) (old : List ℕ) (weight : ℕ) → n < base ^ length old → weight ≡ base ^ length old / base
-    → Printing base n old old n weight 0
-Printing-start base n old weight l u =
-    let q : length old - 0 ≡ length old = omega arith in
-    record {
-      few = omega arith;
-      size = refl;
-      unit = rw q u;
-      below = rw q l;
-      rest = rw q;
-      buffer = paste-zero old 0 (digits_of base (length old) n);
-    }
 
 module _ (base n : ℕ) (old new : List ℕ) (left weight i : ℕ) (h : Printing base n old new left weight i) (pos : 0 < base) (l : i < length old) where
   ahead : length old - i ≡ suc (length old - (i + 1))
@@ -102,15 +89,8 @@ part-length at k old l = rw (length-take, length-drop) (omega arith)
 
 -- what `has_room` answered, and what is then written
 module _ (at : ℕ) (old : List ℕ) (r : Bool) (e : r ≡ leb (at + 16) (length old)) where
-  pub Room-not : (text : List ℕ) → r ≡ false → Written text at old false old
-  Room-not text n = record { room = sym n ∙ e; buffer = refl }
-
   room : r ≡ true → at + 16 ≤ length old
   room n = leb-true (at + 16) (length old) (sym e ∙ n)
-
-  pub Room-has : (bits : ℕ) → bits < 2 ^ 64 → r ≡ true
-      → (0 < 16) × (16 ≤ 16) × (bits < 16 ^ length (take (at + 16 - at) (drop at old))) × (0x1000000000000000 ≡ 16 ^ length (take (at + 16 - at) (drop at old)) / 16)
-  Room-has bits l n = rw (part-length at 16 old (room n)) (lit< tt, lit≤ tt, l, refl)
 
   pub Room-done : (bits : ℕ) (part : List ℕ) → r ≡ true → part ≡ digits_of 16 (length (take (at + 16 - at) (drop at old))) bits
       → Written (bits_text bits) at old true (put_mid at (at + 16 - at) old part)

@@ -2,7 +2,7 @@
 // (IEEE 754 binary64). Every NaN is read as the one NaN, which is written 7ff8000000000000.
 #![tactic(auto)]
 
-ghost use Rattle.std.specs.Prelude.{◌≡◌, ◌+◌, ◌*◌, ◌/◌, ◌<◌, ◌≤◌, ◌^◌, leb, length};
+ghost use Rattle.std.specs.Prelude.{◌≡◌, ◌+◌, ◌*◌, ◌/◌, ◌<◌, ◌≤◌, ◌^◌, leb, is_ok, length};
 ghost use Rattle.std.proofs.Math.Seq.{paste};
 ghost use Rattle.std.specs.Float.{binary64};
 ghost use Rattle.std.specs.Float.Ieee.{of_bits, to_bits};
@@ -22,7 +22,7 @@ fn digit(b: u8) -> u64
     }
 }
 
-// The byte of a digit.
+// The byte of a digit. `char::from_digit` gives it as a character that may not be there, which would have to be turned into a byte.
 #[tactic(auto, unfolding(crate::specs::Digits::letter_of))]
 fn letter(d: u64) -> u8
     requires { d < 16 }
@@ -70,7 +70,8 @@ pub fn read_float(text: &[u8]) -> Option<f64>
     read_bits(text).map(float_of)
 }
 
-// The lowest digits of a number to a base, as many as `out` holds; `unit` is the weight of the highest.
+// The lowest digits of a number to a base, as many as `out` holds; `unit` is the weight of the highest. Into the caller's bytes
+// and to any base, where `{:016x}` writes to a base that stands in the format.
 pub fn put_digits(n: u64, base: u64, unit: u64, out: &mut [u8])
     requires { (0 < base) × (base ≤ 16) × (n < base ^ length out.old) × (unit ≡ base ^ length out.old / base) }
     ensures { out.new ≡ digits_of base (length out.old) n }
@@ -91,21 +92,26 @@ fn has_room(at: usize, out: &[u8]) -> bool
     out.len() >= 16 && at <= out.len() - 16
 }
 
-// Writes 64 bits as 16 digits into `out` from `at` on, and answers true; or false where there is no room, with `out` as it was.
-pub fn write_bits(bits: u64, at: usize, out: &mut [u8]) -> bool
-    ensures { Written (bits_text bits) at out.old result out.new }
+// The buffer ends before the text would.
+#[derive(Clone, Copy, Debug, PartialEq, Eq)]
+pub struct NoRoom;
+
+// Writes 64 bits as 16 digits into `out` from `at` on. Where there is no room `out` stays as it was. The place is handed beside
+// the buffer, so that one past its end is refused here, where the caller's slice from there on would fail.
+pub fn write_bits(bits: u64, at: usize, out: &mut [u8]) -> Result<(), NoRoom>
+    ensures { Written (bits_text bits) at out.old (is_ok result) out.new }
 {
     if !has_room(at, out) {
-        return false;
+        return Err(NoRoom);
     }
     put_digits(bits, 16, 0x1000000000000000, &mut out[at..at + 16]);
-    true
+    Ok(())
 }
 
 // Writes a float's bits likewise.
 #[tactic(auto, unfolding(crate::specs::Bits::float_text))]
-pub fn write_float(x: f64, at: usize, out: &mut [u8]) -> bool
-    ensures { Written (float_text x) at out.old result out.new }
+pub fn write_float(x: f64, at: usize, out: &mut [u8]) -> Result<(), NoRoom>
+    ensures { Written (float_text x) at out.old (is_ok result) out.new }
 {
     write_bits(bits_of(x), at, out)
 }

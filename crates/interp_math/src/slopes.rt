@@ -29,6 +29,7 @@ pub fn parts_over(
     ensures value { get_or result (a + 1) [] ≡ across_of binary64 (get_or weights.now a []) (table_of tables.now a) }
 {
     let mut parts = [[0.0f64; 4]; 4];
+    // k is the row of four tables beside `parts`: an iterator over `parts` would have to count it too
     for k in 0..a {
         parts[k] = across(&weights[a], &rows_at(tables, k));
     }

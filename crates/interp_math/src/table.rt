@@ -61,7 +61,8 @@ pub fn turn(table: &[[f64; 4]; 4]) -> [[f64; 4]; 4]
 }
 
 // The sums over the first axes, so many as the type says: a type, so that the compiler knows the number and keeps the rows in
-// registers.
+// registers. `at` is a place among all coefficients, as the strides are: a part from there on would be the same numbers with a
+// second length.
 pub trait Sums {
     ghost axes: { ℕ };
 

@@ -40,7 +40,8 @@ impl Page {
         ensures { Wrote self.old (44 ∷ float_text x) self.new }
     {
         let mut text = [0u8; 16];
-        float_text::write_float(x, 0, &mut text);
+        // 16 bytes are room enough
+        let _ = float_text::write_float(x, 0, &mut text);
         self.push(b',');
         self.extend(&text);
     }

@@ -22,20 +22,7 @@ pub record Same (vs l₀ l : List Float) (i : ℕ) : Type 0 where
   pub below : (k : ℕ) → k < i → at l k ≡ at vs k
 
 module _ {vs l₀ : List Float} where
-  pub same_start : Same vs l₀ l₀ 0
-  same_start = record { length-l = refl; below = (λ k h. absurd (omega (arith, h))) }
-
-  pub same_step : {l : List Float} {i : ℕ} → Same vs l₀ l i → i < length vs → length vs ≡ length l₀ → Same vs l₀ (set l i (at vs i)) (i + 1)
-  same_step {l} {i} s h len = record {
-    length-l = length-set l i _ ∙ s.length-l;
-    below = (λ k p.
-        ⊎_elim
-        (λ (here : k ≡ i). rw here (get_or-set_same l i _ nan (omega (arith, s.length-l))))
-        (λ (less : k < i). get_or-set_other l i k _ nan (λ w. omega arith) ∙ s.below k less)
-        (eq-or-lt_of_le (omega arith)));
-  }
-
-  pub same-done : {l : List Float} {i : ℕ} → Same vs l₀ l i → length vs ≤ i → length vs ≡ length l₀ → l ≡ vs
+  pub same-done : {l : List Float} {i : ℕ} → Same vs l₀ l i → length l₀ ≤ i → length vs ≡ length l₀ → l ≡ vs
   same-done {l} s h len = ext_get_or nan l vs (s.length-l ∙ sym len) (λ k p. s.below k (omega (arith, s.length-l)))
 
 -- ---- forward elimination: the rows below i are reduced, and r is the last of them. s₀ holds row 0, as s did not

@@ -25,7 +25,8 @@ fn back_row(along: Line, i: usize, after: f64, coeffs: &mut [f64], scratch: &mut
     x
 }
 
-// From the last row but one to the first.
+// From the last row but one to the first. A row is three cells, in both halves of scratch and on the line, whose entries lie a
+// stride apart: its number gives all three, where an iterator would have to zip them.
 fn back_rows(along: Line, coeffs: &mut [f64], scratch: &mut [f64])
     requires inside { (0 < along.n) × LineInside along (length coeffs.old) }
     requires room { LineRoom along (length scratch.old) }

@@ -38,7 +38,7 @@ pub fn copy(vals: &[f64], coeffs: &mut [f64])
     requires { length vals.now ≡ length coeffs.old }
     ensures { coeffs.new ≡ vals.now }
 {
-    for i in 0..vals.len() {
-        coeffs[i] = vals[i];
+    for (i, cell) in coeffs.iter_mut().enumerate() {
+        *cell = vals[i];
     }
 }

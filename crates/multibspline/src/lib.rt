@@ -12,4 +12,4 @@ pub use back::back_substitute;
 pub use checks::check_line;
 pub use entries::{copy, entry, place};
 pub use rows::{Left, Reduced, eliminate, keep_row};
-pub use saturation::Saturation;
+pub use saturation::{AtPlace, Saturation, by_place};

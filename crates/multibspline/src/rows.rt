@@ -1,5 +1,5 @@
 // Rows of a line's system, and elimination. In scratch the upper numbers stand from 0 on and the right sides from m on, the
-// length of the longest axis.
+// length of the longest axis: it is one buffer from C, and what is left in it is promised by the number of its cells.
 ghost use Rattle.std.specs.Prelude.{◌≡◌, ◌+◌, ◌<◌, length};
 ghost use Rattle.std.specs.Float.{binary64};
 ghost use Rattle.multibspline.specs.Thomas.{reduce, with_right};

@@ -15,6 +15,9 @@ pub struct End {
     pub left: Left,
 }
 
+// Each end has its own row: the term that goes is the last of three at the low end and the first at the high end, so that one
+// function for both would be handed all its numbers in the other order.
+
 // The first row, from the weights at the first knot and at the second.
 pub fn low_end(w: [f64; 4], v: [f64; 4], low_ghost: Ghost) -> End
     ensures factor { result.factor ≡ low_factor binary64 w v (ghost_numbers low_ghost) }

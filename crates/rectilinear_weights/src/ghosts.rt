@@ -14,6 +14,8 @@ pub struct Ghost {
     pub p2: f64,
 }
 
+// Each end has its own: which of the four derivatives divides, and which three it divides, would both have to be handed to one
+// function for the two.
 pub fn low_ghost_coeffs(grid: &[f64]) -> Ghost
     requires { 4 ≤ length grid.now }
     ensures { ghost_numbers result ≡ low_ghost_coeffs binary64 grid.now }

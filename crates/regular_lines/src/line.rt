@@ -1,5 +1,6 @@
 // One line of a regular grid: samples to coefficients, by the Thomas algorithm. The line is n cells of `coeffs`, from `base`,
-// `stride` apart.
+// `stride` apart. A rectilinear line has a call of its own, as in interpn: it is handed knots, and its promise is by its grid's
+// rows. What both do is `check_line` and `solve_checked`.
 ghost use Rattle.std.specs.Float.{binary64};
 ghost use Rattle.shape.specs.Refusal.{answer_number};
 ghost use Rattle.regular_lines.specs.Line.{LineSolved};

@@ -12,7 +12,8 @@ pub struct Loc {
     pub origin: usize,
 }
 
-// The place by the quotient; None where its cell cannot be represented. Below zero the place is OutsideLow, so that only the range is left to test there.
+// The place by the quotient; None where its cell cannot be represented. Below zero the place is OutsideLow, so that only the
+// range is left to test there.
 fn loc_of(n: usize, q: f64) -> Option<Loc>
     requires { 4 ≤ n }
     ensures { result ≡ loc_of n q }

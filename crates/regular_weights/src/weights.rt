@@ -1,6 +1,8 @@
 // The four weights of a query on a regular axis, and their slopes.
-ghost use Rattle.std.specs.Prelude.{◌≡◌};
+ghost use Rattle.std.specs.Prelude.{◌≡◌, cond, List, Float};
 ghost use Rattle.std.specs.Float.{binary64};
+ghost use Rattle.std.specs.Float.Ieee.{add, sub};
+ghost use Rattle.multibspline.specs.Numbers.{f1};
 ghost use Rattle.regular_weights.specs.Weights.{
   cubic_bspline_weights,
   cubic_bspline_weight_derivatives,
@@ -10,10 +12,6 @@ ghost use Rattle.regular_weights.specs.Weights.{
   high_linearized_boundary_weight_derivatives,
   fold_low,
   fold_high,
-  low_boundary_weights,
-  high_boundary_weights,
-  low_boundary_weight_derivatives,
-  high_boundary_weight_derivatives,
   interp_weights,
   span_derivatives,
   scaled,
@@ -21,7 +19,7 @@ ghost use Rattle.regular_weights.specs.Weights.{
 };
 
 use interp_math::mul_add;
-use multibspline::Saturation;
+use multibspline::{AtPlace, Saturation, by_place};
 
 // The weights in an inner span. `interp_weights` has these too; a caller that has told the inner span apart goes straight to them,
 // since most queries lie there.
@@ -49,6 +47,9 @@ fn cubic_bspline_weight_derivatives(t: f64) -> [f64; 4]
         3.0 * t2 / 6.0,
     ]
 }
+
+// Straight lines and folds stand once for each end: which entry is zero and which ones are added to differs, not a number, so
+// that one function for both ends would hold both formulas.
 
 // The straight line from the low end.
 fn low_linearized_boundary_weights(t: f64) -> [f64; 4]
@@ -101,70 +102,119 @@ fn fold_high(raw: [f64; 4]) -> [f64; 4]
     ]
 }
 
-fn low_boundary_weights(t: f64, linearize_extrapolation: bool) -> [f64; 4]
-    ensures { result ≡ low_boundary_weights binary64 linearize_extrapolation t }
-{
-    if linearize_extrapolation {
-        return fold_low(low_linearized_boundary_weights(t));
-    }
-    fold_low(cubic_bspline_weights(t))
+// What is asked of a query, its weights or their slopes: the rows of it.
+trait Asked: Copy {
+    ghost on_span: { Float → List Float };
+
+    ghost low_line: { Float → List Float };
+
+    ghost high_line: { Float → List Float };
+
+    fn on_span(self, t: f64) -> [f64; 4]
+        ensures { result ≡ on_span t };
+
+    // the straight lines from the two ends
+    fn low_line(self, t: f64) -> [f64; 4]
+        ensures { result ≡ low_line t };
+
+    fn high_line(self, t: f64) -> [f64; 4]
+        ensures { result ≡ high_line t };
 }
 
-fn low_boundary_weight_derivatives(t: f64, linearize_extrapolation: bool) -> [f64; 4]
-    ensures { result ≡ low_boundary_weight_derivatives binary64 linearize_extrapolation t }
-{
-    if linearize_extrapolation {
-        return fold_low(low_linearized_boundary_weight_derivatives());
+#[derive(Clone, Copy)]
+struct Weights;
+
+#[derive(Clone, Copy)]
+struct Slopes;
+
+impl Asked for Weights {
+    ghost on_span = { cubic_bspline_weights binary64 };
+
+    ghost low_line = { low_linearized_boundary_weights binary64 };
+
+    ghost high_line = { high_linearized_boundary_weights binary64 };
+
+    fn on_span(self, t: f64) -> [f64; 4] {
+        cubic_bspline_weights(t)
     }
-    fold_low(cubic_bspline_weight_derivatives(t))
+
+    fn low_line(self, t: f64) -> [f64; 4] {
+        low_linearized_boundary_weights(t)
+    }
+
+    fn high_line(self, t: f64) -> [f64; 4] {
+        high_linearized_boundary_weights(t)
+    }
 }
 
-fn high_boundary_weights(t: f64, linearize_extrapolation: bool) -> [f64; 4]
-    ensures { result ≡ high_boundary_weights binary64 linearize_extrapolation t }
-{
-    if linearize_extrapolation {
-        return fold_high(high_linearized_boundary_weights(t));
+impl Asked for Slopes {
+    ghost on_span = { cubic_bspline_weight_derivatives binary64 };
+
+    ghost low_line = { λ t. low_linearized_boundary_weight_derivatives binary64 };
+
+    ghost high_line = { λ t. high_linearized_boundary_weight_derivatives binary64 };
+
+    fn on_span(self, t: f64) -> [f64; 4] {
+        cubic_bspline_weight_derivatives(t)
     }
-    fold_high(cubic_bspline_weights(t))
+
+    fn low_line(self, _t: f64) -> [f64; 4] {
+        low_linearized_boundary_weight_derivatives()
+    }
+
+    fn high_line(self, _t: f64) -> [f64; 4] {
+        high_linearized_boundary_weight_derivatives()
+    }
 }
 
-fn high_boundary_weight_derivatives(t: f64, linearize_extrapolation: bool) -> [f64; 4]
-    ensures { result ≡ high_boundary_weight_derivatives binary64 linearize_extrapolation t }
-{
-    if linearize_extrapolation {
-        return fold_high(high_linearized_boundary_weight_derivatives());
-    }
-    fold_high(cubic_bspline_weight_derivatives(t))
+// A query, and what is asked of it.
+#[derive(Drop)]
+struct Query<A> {
+    asked: A,
+    t: f64,
 }
 
-// The weights at a place. A place inside is never extended in a straight line. Out of the loops over the queries, which need it at
-// the ends of an axis alone.
+// The rows of an end start from the span's own, as interpn's low_ and high_boundary_weights and their _derivatives do.
+impl<A: Asked> AtPlace for Query<A> {
+    ghost inner = { λ q. A.on_span q.t };
+
+    ghost low = { λ q straight. let t = add binary64 q.t f1 in fold_low binary64 (cond straight (A.low_line t) (A.on_span t)) };
+
+    ghost high = { λ q straight. let t = sub binary64 q.t f1 in fold_high binary64 (cond straight (A.high_line t) (A.on_span t)) };
+
+    fn inner(self) -> [f64; 4] {
+        self.asked.on_span(self.t)
+    }
+
+    fn low(self, straight: bool) -> [f64; 4] {
+        let t = self.t + 1.0;
+        if straight {
+            return fold_low(self.asked.low_line(t));
+        }
+        fold_low(self.asked.on_span(t))
+    }
+
+    fn high(self, straight: bool) -> [f64; 4] {
+        let t = self.t - 1.0;
+        if straight {
+            return fold_high(self.asked.high_line(t));
+        }
+        fold_high(self.asked.on_span(t))
+    }
+}
+
+// The weights at a place. Out of the loops over the queries, which need it at the ends of an axis alone.
 #[inline(never)]
 pub fn interp_weights(t: f64, sat: Saturation, linearize_extrapolation: bool) -> [f64; 4]
     ensures { result ≡ interp_weights binary64 linearize_extrapolation sat t }
 {
-    match sat {
-        Saturation::None => cubic_bspline_weights(t),
-        Saturation::InsideLow => low_boundary_weights(t + 1.0, false),
-        Saturation::OutsideLow => low_boundary_weights(t + 1.0, linearize_extrapolation),
-        Saturation::InsideHigh => high_boundary_weights(t - 1.0, false),
-        Saturation::OutsideHigh => high_boundary_weights(t - 1.0, linearize_extrapolation),
-    }
+    by_place(Query { asked: Weights, t }, sat, linearize_extrapolation)
 }
 
 fn span_derivatives(t: f64, sat: Saturation, linearize_extrapolation: bool) -> [f64; 4]
     ensures { result ≡ span_derivatives binary64 linearize_extrapolation sat t }
 {
-    match sat {
-        Saturation::None => cubic_bspline_weight_derivatives(t),
-        Saturation::InsideLow => low_boundary_weight_derivatives(t + 1.0, false),
-        Saturation::OutsideLow => low_boundary_weight_derivatives(t + 1.0, linearize_extrapolation),
-        Saturation::InsideHigh => high_boundary_weight_derivatives(t - 1.0, false),
-        Saturation::OutsideHigh => high_boundary_weight_derivatives(
-            t - 1.0,
-            linearize_extrapolation,
-        ),
-    }
+    by_place(Query { asked: Slopes, t }, sat, linearize_extrapolation)
 }
 
 fn scale(w: [f64; 4], by: f64) -> [f64; 4]

@@ -1,8 +1,5 @@
-use Rattle.float_text.proofs.Writing.{Printing-start, Printing-weight, Printing-digit, Printing-step, Printing-done}
+use Rattle.float_text.proofs.Writing.{Printing-weight, Printing-digit, Printing-step, Printing-done}
 use Rattle.float_text.proofs.put_digits.Goals as goal
-
-pub loop-place-init : goal.loop-place-init
-loop-place-init c = search Printing-start
 
 pub nonzero_div-left : goal.nonzero_div-left
 nonzero_div-left c = search Printing-weight

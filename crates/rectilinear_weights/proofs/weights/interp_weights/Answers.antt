@@ -1,22 +1,6 @@
 use Rattle.rectilinear_weights.specs.Weights.{interp_weights}
 use Rattle.rectilinear_weights.proofs.weights.interp_weights.Goals as goal
 
-pub returns-in-None : goal.returns-in-None
+pub returns : goal.returns
 unfolding interp_weights
-returns-in-None c = rw c.in-None.is c.basis_span_weights.ensures
-
-pub returns-in-InsideLow : goal.returns-in-InsideLow
-unfolding interp_weights
-returns-in-InsideLow c = rw c.in-InsideLow.is c.low_boundary_weights.ensures
-
-pub returns-in-OutsideLow : goal.returns-in-OutsideLow
-unfolding interp_weights
-returns-in-OutsideLow c = rw c.in-OutsideLow.is c.low_boundary_weights-in-OutsideLow.ensures
-
-pub returns-in-InsideHigh : goal.returns-in-InsideHigh
-unfolding interp_weights
-returns-in-InsideHigh c = rw c.in-InsideHigh.is c.high_boundary_weights.ensures
-
-pub returns-in-OutsideHigh : goal.returns-in-OutsideHigh
-unfolding interp_weights
-returns-in-OutsideHigh c = rw c.in-OutsideHigh.is c.high_boundary_weights-in-OutsideHigh.ensures
+returns c = c.by_place.ensures
