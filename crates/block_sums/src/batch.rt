@@ -18,19 +18,19 @@ pub fn value_batch<M: Map>(
     coeffs: &[f64],
     xs: &[f64],
     n: usize,
-    places: &mut [<M::Along as Axis>::Place],
-    spots: &mut [Spot],
     out: &mut [f64],
 ) -> Result<(), Refusal>
     requires sized { length coeffs.now ≡ size (take (M.view map.now).count (M.view map.now).lens) }
-    requires room { ((M.view map.now).count * n ≤ length xs.now) × (32 ≤ length places.old) × (32 ≤ length spots.old) × (n ≤ length out.old) }
+    requires room { ((M.view map.now).count * n ≤ length xs.now) × (n ≤ length out.old) }
     ensures { (checks : List Check) → ValueEntries (spline_of binary64 (M.view map.now) checks coeffs.now) xs.now n out.old (answer_number result) out.new }
 {
+    let mut places = [<M::Along as Axis>::blank(); 32];
+    let mut spots = [Spot::blank(); 32];
     let mut from: usize = 0;
     while from < n {
         let m = block_size(from, n);
         let s = Span { xs, n, from, m };
-        if values_block(map, coeffs, s, places, spots, out) < m {
+        if values_block(map, coeffs, s, &mut places, &mut spots, out) < m {
             return Err(Refusal::Unrepresentable);
         }
         from += m;
@@ -44,19 +44,19 @@ pub fn gradient_batch<M: Map>(
     coeffs: &[f64],
     xs: &[f64],
     n: usize,
-    places: &mut [<M::Along as Axis>::Place],
-    spots: &mut [Spot],
     out: &mut [f64],
 ) -> Result<(), Refusal>
     requires sized { length coeffs.now ≡ size (take (M.view map.now).count (M.view map.now).lens) }
-    requires room { ((M.view map.now).count * n ≤ length xs.now) × (32 ≤ length places.old) × (32 ≤ length spots.old) × ((M.view map.now).count * n ≤ length out.old) }
+    requires room { ((M.view map.now).count * n ≤ length xs.now) × ((M.view map.now).count * n ≤ length out.old) }
     ensures { (checks : List Check) → GradientEntries (spline_of binary64 (M.view map.now) checks coeffs.now) xs.now n out.old (answer_number result) out.new }
 {
+    let mut places = [<M::Along as Axis>::blank(); 32];
+    let mut spots = [Spot::blank(); 32];
     let mut from: usize = 0;
     while from < n {
         let m = block_size(from, n);
         let s = Span { xs, n, from, m };
-        if gradients_block(map, coeffs, s, places, spots, out) < m {
+        if gradients_block(map, coeffs, s, &mut places, &mut spots, out) < m {
             return Err(Refusal::Unrepresentable);
         }
         from += m;

@@ -31,6 +31,10 @@ impl<'a> Axis for Knots<'a> {
 
     ghost Kept = { λ k x c. c ≡ count_below k.knots.now x };
 
+    fn blank() -> usize {
+        0
+    }
+
     fn place(self, x: f64) -> Option<(usize, usize)> {
         let c = count_below(self.knots, x);
         Some((loc_of(self.knots.len(), c).origin, c))

@@ -8,4 +8,4 @@ returns-then-good-lt1 g c = λ checks. single-gradient-refused _ _ (c.gradients_
 
 pub returns : goal.returns
 unfolding of_bits
-returns g c = λ checks. single-gradient _ _ c.requires.3 refl (c.gradients_block-good.ensures checks) c.if-good-lt1.false
+returns g c = λ checks. single-gradient _ _ c.requires.2 refl (c.gradients_block-good.ensures checks) c.if-good-lt1.false
