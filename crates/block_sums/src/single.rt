@@ -9,7 +9,9 @@ ghost use Rattle.evaluation.specs.Axes.{query, zeros};
 ghost use Rattle.evaluation.specs.ByAxis.{spline_of};
 ghost use Rattle.evaluation.specs.Entries.{Answered, GradientAnswered};
 
-use crate::block::{gradients_block, values_block};
+use crate::blocks::block;
+use crate::gradients::Gradients;
+use crate::values::Values;
 use evaluation::{Axis, Map, Span, Spot};
 use shape::Refusal;
 
@@ -31,7 +33,7 @@ pub fn single_value<M: Map>(
         from: 0,
         m: 1,
     };
-    let good = values_block(map, coeffs, s, &mut places, &mut spots, &mut out);
+    let good = block::<Values, M>(map, coeffs, s, &mut places, &mut spots, &mut out);
     if good < 1 {
         return Err(Refusal::Unrepresentable);
     }
@@ -56,7 +58,7 @@ pub fn single_gradient<M: Map>(
         from: 0,
         m: 1,
     };
-    let good = gradients_block(map, coeffs, s, &mut places, &mut spots, &mut parts);
+    let good = block::<Gradients, M>(map, coeffs, s, &mut places, &mut spots, &mut parts);
     if good < 1 {
         return Err(Refusal::Unrepresentable);
     }

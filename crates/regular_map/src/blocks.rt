@@ -7,7 +7,7 @@ ghost use Rattle.evaluation.specs.Entries.{ValueEntries, GradientEntries};
 ghost use Rattle.regular_blocks.specs.Checks.{regular};
 ghost use Rattle.regular_blocks.specs.Records.{map_of};
 
-use block_sums::{gradient_batch, value_batch};
+use block_sums::{Gradients, Values, batch};
 use regular_blocks::Grid;
 use shape::Refusal;
 
@@ -22,7 +22,7 @@ pub fn put_values(
     requires { (length coeffs.now ≡ size (take grid.count grid.dims)) × (grid.count * n ≤ length xs.now) × (n ≤ length out.old) }
     ensures { ValueEntries (regular binary64 (map_of grid) coeffs.now) xs.now n out.old (answer_number result) out.new }
 {
-    value_batch(&grid, coeffs, xs, n, out)
+    batch::<Values, Grid>(&grid, coeffs, xs, n, out)
 }
 
 // The gradients of n queries, up to the first that is refused.
@@ -36,5 +36,5 @@ pub fn put_gradients(
     requires { (length coeffs.now ≡ size (take grid.count grid.dims)) × (grid.count * n ≤ length xs.now) × (grid.count * n ≤ length out.old) }
     ensures { GradientEntries (regular binary64 (map_of grid) coeffs.now) xs.now n out.old (answer_number result) out.new }
 {
-    gradient_batch(&grid, coeffs, xs, n, out)
+    batch::<Gradients, Grid>(&grid, coeffs, xs, n, out)
 }
