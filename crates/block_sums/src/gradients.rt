@@ -28,8 +28,8 @@ fn over<S: Sums>(
     let a = S::axes();
     let rows = S::parts(coeffs, strides, weights, slopes, first);
     let mut parts = [0.0f64; 4];
-    for j in 0..a {
-        parts[j] = dot4(weights[a], rows[j]);
+    for (j, row) in rows[..a].iter().enumerate() {
+        parts[j] = dot4(weights[a], *row);
     }
     parts[a] = dot4(slopes[a], rows[a]);
     parts

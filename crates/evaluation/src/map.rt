@@ -34,6 +34,7 @@ pub struct Span<'a> {
     pub n: usize,
     pub from: usize,
     pub m: usize,
+    ghost within: { from + m ≤ n },
 }
 
 impl<'a> Span<'a> {
@@ -48,12 +49,11 @@ impl<'a> Span<'a> {
 }
 
 // The first coefficients before any axis is looked at.
-fn zero_firsts(m: usize, spots: &mut [Spot])
-    requires { m ≤ length spots.old }
-    ensures { (k : ℕ) → k < m → (get_or spots.new k no_spot).first ≡ 0 }
+fn zero_firsts(spots: &mut [Spot])
+    ensures { (k : ℕ) → k < length spots.old → (get_or spots.new k no_spot).first ≡ 0 }
 {
-    for k in 0..m {
-        spots[k].first = 0;
+    for spot in spots.iter_mut() {
+        spot.first = 0;
     }
 }
 
@@ -65,12 +65,12 @@ pub fn look<F: Figures, M: Map>(
     places: &mut [<M::Along as Axis>::Place],
     spots: &mut [Spot],
 ) -> usize
-    requires room { (s.from + s.m ≤ s.n) × ((M.view map.now).count * s.n ≤ length s.xs.now) × (s.m ≤ length places.old) × (s.m ≤ length spots.old) }
+    requires room { ((M.view map.now).count * s.n ≤ length s.xs.now) × (s.m ≤ length places.old) × (s.m ≤ length spots.old) }
     ensures { LookedTo (F.Rows (M.view map.now)) (M.view map.now) s.entry.xs.now s.entry.n s.entry.from s.entry.m (M.view map.now).count result spots.new }
 {
     let strides = map.strides();
     let count = map.count();
-    zero_firsts(s.m, spots);
+    zero_firsts(&mut spots[..s.m]);
     let mut good = s.m;
     for a in 0..count {
         let axis = map.axis(a);
