@@ -1,5 +1,5 @@
 -- What a block answers, by the queries that have been looked at and the sums. For every format. Assumes nothing.
-use Rattle.std.proofs.Common.{◌≡◌, refl, sym, ◌∙◌, ◌⊎◌, inl, inr, List, [], ℕ, ◌+◌, ◌*◌, ◌≤◌, ◌<◌, length, get_or, take, Float, arith}
+use Rattle.std.proofs.Common.{◌≡◌, refl, sym, ◌∙◌, ◌⊎◌, inl, inr, List, ℕ, ◌+◌, ◌≤◌, ◌<◌, length, get_or, take, Float, arith}
 use Rattle.std.specs.Float.{Format}
 use native.Mathlib.Nat.{eq-or-lt_of_le}
 use lib.ListN.{length-take}

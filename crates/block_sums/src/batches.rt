@@ -28,6 +28,7 @@ pub fn batch<F: Figures, M: Map>(
     let mut places = [<M::Along as Axis>::blank(); 32];
     let mut spots = [Spot::blank(); 32];
     let mut from: usize = 0;
+    // not `(0..n).step_by(32)`: a block is as long as `block_size` says, and what is written so far ends at `from`, never past n
     while from < n {
         let m = block_size(from, n);
         let s = Span { xs, n, from, m };

@@ -7,9 +7,7 @@ ghost use Rattle.evaluation.specs.Batch.{gradient_step};
 ghost use Rattle.evaluation.specs.Stages.{no_spot, no_rows, Sloped};
 ghost use Rattle.block_sums.specs.Sums.{Summable, gradients_put};
 
-use evaluation::{
-    Axis, Figures, Map, SlopeTable, Span, Spot, WeightTable, put_parts, put_rows,
-};
+use evaluation::{Axis, Figures, Map, SlopeTable, Span, Spot, WeightTable, put_parts, put_rows};
 use interp_math::{NoAxis, OneMore, Sums, dot4};
 
 // Over the axes of S and one more, the last: the parts, zeros for the axes not in use.
@@ -57,7 +55,8 @@ fn put_over<S: Sums>(
     }
 }
 
-// Over so many axes. Each number of axes has a loop of its own, so that the compiler knows how many parts there are.
+// Over so many axes. Each number of axes has a loop of its own, so that the compiler knows how many parts there are. The numbers are
+// told apart here and in `value`: one switch for both would need a trait and a record of the arguments of each, more than its lines.
 fn put_gradients(
     count: usize,
     strides: &[usize; 4],
@@ -106,15 +105,7 @@ impl Figures for Gradients {
     }
 
     fn put<M: Map>(map: &M, coeffs: &[f64], s: Span, spots: &[Spot], out: &mut [f64]) {
-        put_gradients(
-            map.count(),
-            &map.strides(),
-            coeffs,
-            spots,
-            s.n,
-            s.from,
-            out,
-        );
+        put_gradients(map.count(), &map.strides(), coeffs, spots, s.n, s.from, out);
     }
 
     ghost none = { λ m x s. (no_rows, λ more. no_rows) };

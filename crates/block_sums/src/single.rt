@@ -1,4 +1,4 @@
-// A single query as a block of one.
+// A single query as a block of one. A value and a gradient are two functions, as they answer different types.
 ghost use Rattle.std.specs.Prelude.{◌≡◌, List, ◌≤◌, length, take};
 ghost use Rattle.multibspline.specs.Numbers.{f0};
 ghost use Rattle.std.specs.Float.{binary64};
@@ -16,11 +16,7 @@ use evaluation::{Axis, Map, Span, Spot};
 use shape::Refusal;
 
 // Its value, or that it has no place.
-pub fn single_value<M: Map>(
-    map: &M,
-    coeffs: &[f64],
-    x: &[f64],
-) -> Result<f64, Refusal>
+pub fn single_value<M: Map>(map: &M, coeffs: &[f64], x: &[f64]) -> Result<f64, Refusal>
     requires { (length coeffs.now ≡ size (take (M.view map.now).count (M.view map.now).lens)) × ((M.view map.now).count ≤ length x.now) }
     ensures { (checks : List Check) → Answered (spline_of binary64 (M.view map.now) checks coeffs.now) (query (M.view map.now).count x.now 1 0) (answer_number result) (answer_or f0 result) }
 {
@@ -41,11 +37,7 @@ pub fn single_value<M: Map>(
 }
 
 // Its gradient.
-pub fn single_gradient<M: Map>(
-    map: &M,
-    coeffs: &[f64],
-    x: &[f64],
-) -> Result<[f64; 4], Refusal>
+pub fn single_gradient<M: Map>(map: &M, coeffs: &[f64], x: &[f64]) -> Result<[f64; 4], Refusal>
     requires { (length coeffs.now ≡ size (take (M.view map.now).count (M.view map.now).lens)) × ((M.view map.now).count ≤ length x.now) × ((M.view map.now).count ≤ 4) }
     ensures { (checks : List Check) → GradientAnswered (spline_of binary64 (M.view map.now) checks coeffs.now) (query (M.view map.now).count x.now 1 0) (answer_number result) (answer_or zeros result) }
 {

@@ -48,7 +48,7 @@ impl<'a> Span<'a> {
     }
 }
 
-// The first coefficients before any axis is looked at.
+// The first coefficients of the queries before any axis is looked at.
 fn zero_firsts(spots: &mut [Spot])
     ensures { (k : ℕ) → k < length spots.old → (get_or spots.new k no_spot).first ≡ 0 }
 {
@@ -72,6 +72,7 @@ pub fn look<F: Figures, M: Map>(
     let count = map.count();
     zero_firsts(&mut spots[..s.m]);
     let mut good = s.m;
+    // counted: the axis, its stride and its coordinates are each asked for by its number
     for a in 0..count {
         let axis = map.axis(a);
         good = put_places(axis, strides[a], s.along(a, good), places, spots);

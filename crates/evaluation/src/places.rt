@@ -10,6 +10,7 @@ pub fn query(xs: &[f64], n: usize, i: usize, count: usize) -> [f64; 4]
     ensures { result ≡ query count xs.now n i }
 {
     let mut x = [0.0f64; 4];
+    // counted: the coordinates stand n apart, and no slice has them side by side
     for a in 0..count {
         x[a] = xs[a * n + i];
     }

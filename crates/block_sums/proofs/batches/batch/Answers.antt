@@ -1,4 +1,3 @@
-use Rattle.std.proofs.Common.{arith}
 use Rattle.evaluation.proofs.Batches.{running-start, block-next, block-stop, running-done}
 use Rattle.block_sums.proofs.batches.batch.Goals as goal
 

@@ -1,4 +1,4 @@
-use Rattle.std.proofs.Common.{refl, arith}
+use Rattle.std.proofs.Common.{refl}
 use lib.Ieee.{of_bits}
 use Rattle.evaluation.proofs.Singles.{single-gradient, single-gradient-refused}
 use Rattle.block_sums.proofs.single.single_gradient.Goals as goal

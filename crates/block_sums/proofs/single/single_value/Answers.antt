@@ -1,4 +1,4 @@
-use Rattle.std.proofs.Common.{◌≡◌, ◌+◌, refl, arith}
+use Rattle.std.proofs.Common.{arith}
 use Rattle.evaluation.proofs.Singles.{single-value, single-value-refused}
 use Rattle.block_sums.proofs.single.single_value.Goals as goal
 

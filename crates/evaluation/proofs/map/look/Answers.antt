@@ -6,9 +6,9 @@ use Rattle.evaluation.proofs.Looking.{axis-cells, looked-start, looked-small, ke
 use Rattle.evaluation.proofs.map.look.Goals as goal
 
 pub loop-a-init : goal.loop-a-init
-loop-a-init g c = looked-start (g.M.Map.view c.args.map.now) c.strides-strides.ensures c.args.s.xs.now c.args.s.n c.args.s.from c.args.s.m (g.met.F.Figures.none _) 
+loop-a-init g c = looked-start (g.M.Map.view c.args.map.now) c.strides-strides.ensures c.args.s.xs.now c.args.s.n c.args.s.from c.args.s.m (g.met.F.Figures.none _)
     (λ k h. let here : k < length c.zero_firsts.new.spots = omega (arith, c.zero_firsts.auto.spots, length-take c.args.s.m c.args.spots.now) in
-      ap (λ (s : Spot). s.first) (get_or-append _ _ no_spot k here) ∙ c.zero_firsts.ensures k (omega (arith, length-take c.args.s.m c.args.spots.now)))
+    ap (λ (s : Spot). s.first) (get_or-append _ _ no_spot k here) ∙ c.zero_firsts.ensures k (omega (arith, length-take c.args.s.m c.args.spots.now)))
 
 pub put_places-good-requires-clause-small : goal.put_places-good-requires-clause-small
 put_places-good-requires-clause-small g c =

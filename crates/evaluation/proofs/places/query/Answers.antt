@@ -1,7 +1,7 @@
-use Rattle.std.proofs.Common.{◌≡◌, ap, ◌∙◌, ◌+◌, ◌*◌, ◌<◌, arith, List, length, get_or, set, Float}
+use Rattle.std.proofs.Common.{ap, ◌∙◌, ◌+◌, ◌*◌, arith, List, get_or, set, Float}
 use Rattle.std.specs.Float.{nan}
 use lib.Ieee.{of_bits}
-use Rattle.evaluation.proofs.Queries.{in-batch, query-next, query-none}
+use Rattle.evaluation.proofs.Queries.{query-next, query-none}
 use Rattle.evaluation.proofs.places.query.Goals as goal
 
 pub loop-a-init : goal.loop-a-init

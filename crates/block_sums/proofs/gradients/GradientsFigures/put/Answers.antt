@@ -1,4 +1,3 @@
-use Rattle.std.proofs.Common.{arith}
 use Rattle.std.specs.Float.{binary64}
 use Rattle.block_sums.proofs.OfBlock.{summable, gradients-are}
 use Rattle.block_sums.proofs.gradients.GradientsFigures.put.Goals as goal

@@ -1,4 +1,3 @@
-use Rattle.std.proofs.Common.{arith}
 use Rattle.std.specs.Float.{binary64}
 use Rattle.block_sums.proofs.OfBlock.{summable, values-are}
 use Rattle.block_sums.proofs.values.ValuesFigures.put.Goals as goal
