@@ -3,10 +3,11 @@
 ghost use Rattle.std.specs.Prelude.{◌≡◌, ℕ, suc, ◌+◌, ◌*◌, ◌≤◌, ◌<◌, length, get_or};
 ghost use Rattle.std.specs.Float.{binary64, nan};
 ghost use Rattle.interp_math.specs.Sum.{gradient_part};
-ghost use Rattle.evaluation.specs.Stages.{no_spot};
+ghost use Rattle.evaluation.specs.Batch.{gradient_step};
+ghost use Rattle.evaluation.specs.Stages.{no_spot, no_rows, Sloped};
 ghost use Rattle.block_sums.specs.Sums.{Summable, gradients_put};
 
-use evaluation::{Spot, put_parts};
+use evaluation::{Axis, Figures, Map, SlopeTable, Span, Spot, WeightTable, put_parts, put_rows};
 use interp_math::{NoAxis, OneMore, Sums, dot4};
 
 // Over the axes of S and one more, the last: the parts, zeros for the axes not in use.
@@ -25,8 +26,8 @@ fn over<S: Sums>(
     let a = S::axes();
     let rows = S::parts(coeffs, strides, weights, slopes, first);
     let mut parts = [0.0f64; 4];
-    for j in 0..a {
-        parts[j] = dot4(weights[a], rows[j]);
+    for (j, row) in rows[..a].iter().enumerate() {
+        parts[j] = dot4(weights[a], *row);
     }
     parts[a] = dot4(slopes[a], rows[a]);
     parts
@@ -54,8 +55,9 @@ fn put_over<S: Sums>(
     }
 }
 
-// Over so many axes. Each number of axes has a loop of its own, so that the compiler knows how many parts there are.
-pub fn put_gradients(
+// Over so many axes. Each number of axes has a loop of its own, so that the compiler knows how many parts there are. The numbers are
+// told apart here and in `value`: one switch for both would need a trait and a record of the arguments of each, more than its lines.
+fn put_gradients(
     count: usize,
     strides: &[usize; 4],
     coeffs: &[f64],
@@ -75,4 +77,38 @@ pub fn put_gradients(
         3 => put_over::<OneMore<OneMore<NoAxis>>>(strides, coeffs, spots, n, from, out),
         _ => put_over::<OneMore<OneMore<OneMore<NoAxis>>>>(strides, coeffs, spots, n, from, out),
     }
+}
+
+// The gradients, as what is asked of a block.
+pub struct Gradients;
+
+impl Figures for Gradients {
+    ghost Rows = { Sloped };
+
+    ghost numbers = { λ count n. count * n };
+
+    ghost step = { gradient_step };
+
+    // Over one axis the slopes alone.
+    fn look<A: Axis>(
+        axis: A,
+        count: usize,
+        a: usize,
+        xs: &[f64],
+        places: &[A::Place],
+        spots: &mut [Spot],
+    ) {
+        put_rows::<SlopeTable, A>(axis, a, xs, places, spots);
+        if 1 < count {
+            put_rows::<WeightTable, A>(axis, a, xs, places, spots);
+        }
+    }
+
+    fn put<M: Map>(map: &M, coeffs: &[f64], s: Span, spots: &[Spot], out: &mut [f64]) {
+        put_gradients(map.count(), &map.strides(), coeffs, spots, s.n, s.from, out);
+    }
+
+    ghost none = { λ m x s. (no_rows, λ more. no_rows) };
+
+    ghost tables = { λ m x a s t ew es w. (rw es w.0, λ more. rw ew (w.1 more)) };
 }

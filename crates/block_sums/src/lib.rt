@@ -2,13 +2,14 @@
 // slopes of the queries.
 #![tactic(auto)]
 
-mod batch;
-mod block;
+mod batches;
+mod blocks;
 mod gradients;
 mod single;
 mod values;
 
-pub use batch::{gradient_batch, value_batch};
-pub use block::{gradients_block, values_block};
+pub use batches::batch;
+pub use blocks::block;
+pub use gradients::Gradients;
 pub use single::{single_gradient, single_value};
-pub use values::value;
+pub use values::{Values, value};

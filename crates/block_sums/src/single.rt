@@ -1,4 +1,4 @@
-// A single query as a block of one.
+// A single query as a block of one. A value and a gradient are two functions, as they answer different types.
 ghost use Rattle.std.specs.Prelude.{◌≡◌, List, ◌≤◌, length, take};
 ghost use Rattle.multibspline.specs.Numbers.{f0};
 ghost use Rattle.std.specs.Float.{binary64};
@@ -9,20 +9,18 @@ ghost use Rattle.evaluation.specs.Axes.{query, zeros};
 ghost use Rattle.evaluation.specs.ByAxis.{spline_of};
 ghost use Rattle.evaluation.specs.Entries.{Answered, GradientAnswered};
 
-use crate::block::{gradients_block, values_block};
+use crate::blocks::block;
+use crate::gradients::Gradients;
+use crate::values::Values;
 use evaluation::{Axis, Map, Span, Spot};
 use shape::Refusal;
 
-// Its value, or that it has no place; `places` has room for one.
-pub fn single_value<M: Map>(
-    map: &M,
-    coeffs: &[f64],
-    x: &[f64],
-    places: &mut [<M::Along as Axis>::Place],
-) -> Result<f64, Refusal>
-    requires { (length coeffs.now ≡ size (take (M.view map.now).count (M.view map.now).lens)) × ((M.view map.now).count ≤ length x.now) × (1 ≤ length places.old) }
+// Its value, or that it has no place.
+pub fn single_value<M: Map>(map: &M, coeffs: &[f64], x: &[f64]) -> Result<f64, Refusal>
+    requires { (length coeffs.now ≡ size (take (M.view map.now).count (M.view map.now).lens)) × ((M.view map.now).count ≤ length x.now) }
     ensures { (checks : List Check) → Answered (spline_of binary64 (M.view map.now) checks coeffs.now) (query (M.view map.now).count x.now 1 0) (answer_number result) (answer_or f0 result) }
 {
+    let mut places = [<M::Along as Axis>::blank(); 1];
     let mut spots = [Spot::blank(); 1];
     let mut out = [0.0f64; 1];
     let s = Span {
@@ -31,7 +29,7 @@ pub fn single_value<M: Map>(
         from: 0,
         m: 1,
     };
-    let good = values_block(map, coeffs, s, places, &mut spots, &mut out);
+    let good = block::<Values, M>(map, coeffs, s, &mut places, &mut spots, &mut out);
     if good < 1 {
         return Err(Refusal::Unrepresentable);
     }
@@ -39,15 +37,11 @@ pub fn single_value<M: Map>(
 }
 
 // Its gradient.
-pub fn single_gradient<M: Map>(
-    map: &M,
-    coeffs: &[f64],
-    x: &[f64],
-    places: &mut [<M::Along as Axis>::Place],
-) -> Result<[f64; 4], Refusal>
-    requires { (length coeffs.now ≡ size (take (M.view map.now).count (M.view map.now).lens)) × ((M.view map.now).count ≤ length x.now) × (1 ≤ length places.old) × ((M.view map.now).count ≤ 4) }
+pub fn single_gradient<M: Map>(map: &M, coeffs: &[f64], x: &[f64]) -> Result<[f64; 4], Refusal>
+    requires { (length coeffs.now ≡ size (take (M.view map.now).count (M.view map.now).lens)) × ((M.view map.now).count ≤ length x.now) × ((M.view map.now).count ≤ 4) }
     ensures { (checks : List Check) → GradientAnswered (spline_of binary64 (M.view map.now) checks coeffs.now) (query (M.view map.now).count x.now 1 0) (answer_number result) (answer_or zeros result) }
 {
+    let mut places = [<M::Along as Axis>::blank(); 1];
     let mut spots = [Spot::blank(); 1];
     let mut parts = [0.0f64; 4];
     let s = Span {
@@ -56,7 +50,7 @@ pub fn single_gradient<M: Map>(
         from: 0,
         m: 1,
     };
-    let good = gradients_block(map, coeffs, s, places, &mut spots, &mut parts);
+    let good = block::<Gradients, M>(map, coeffs, s, &mut places, &mut spots, &mut parts);
     if good < 1 {
         return Err(Refusal::Unrepresentable);
     }

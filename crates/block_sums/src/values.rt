@@ -3,11 +3,11 @@
 ghost use Rattle.std.specs.Prelude.{◌≡◌, ℕ, suc, ◌+◌, ◌≤◌, ◌<◌, length, get_or};
 ghost use Rattle.std.specs.Float.{binary64};
 ghost use Rattle.interp_math.specs.Sum.{summed};
-ghost use Rattle.evaluation.specs.Block.{reach};
-ghost use Rattle.evaluation.specs.Stages.{no_spot};
+ghost use Rattle.evaluation.specs.Batch.{value_step};
+ghost use Rattle.evaluation.specs.Stages.{no_spot, no_rows, Weighed};
 ghost use Rattle.block_sums.specs.Sums.{Summable, values_put};
 
-use evaluation::Spot;
+use evaluation::{Axis, Figures, Map, Span, Spot, WeightTable, put_rows};
 use interp_math::{NoAxis, OneMore, Sums, dot4, turn};
 
 // Over the axes of S and one more, the last.
@@ -42,7 +42,7 @@ pub fn value(
 }
 
 // The values of the queries of a block, from entry `from` on.
-pub fn put_values(
+fn put_values(
     count: usize,
     strides: &[usize; 4],
     coeffs: &[f64],
@@ -59,4 +59,34 @@ pub fn put_values(
     for (k, spot) in spots.iter().enumerate() {
         out[from + k] = value(count, &strides, coeffs, &spot.weights, spot.first);
     }
+}
+
+// The values, as what is asked of a block.
+pub struct Values;
+
+impl Figures for Values {
+    ghost Rows = { Weighed };
+
+    ghost numbers = { λ count n. n };
+
+    ghost step = { value_step };
+
+    fn look<A: Axis>(
+        axis: A,
+        count: usize,
+        a: usize,
+        xs: &[f64],
+        places: &[A::Place],
+        spots: &mut [Spot],
+    ) {
+        put_rows::<WeightTable, A>(axis, a, xs, places, spots);
+    }
+
+    fn put<M: Map>(map: &M, coeffs: &[f64], s: Span, spots: &[Spot], out: &mut [f64]) {
+        put_values(map.count(), &map.strides(), coeffs, spots, s.from, out);
+    }
+
+    ghost none = { λ m x s. no_rows };
+
+    ghost tables = { λ m x a s t ew es w. rw ew w };
 }

@@ -1,18 +1,17 @@
 -- A block of queries axis after axis, on either grid: before any axis, and one axis more. Assumes nothing.
 use Rattle.std.proofs.Common.{◌≡◌, refl, sym, ap, ◌∙◌, true, false, Bool, ◌||◌, ◌⊎◌, inl, inr, List, [], ℕ, ◌+◌, ◌*◌, ◌≤◌, ◌<◌, length, get_or, take, set, Float, arith, add-one}
 use Rattle.std.specs.Float.{nan}
-use native.Mathlib.Nat.{eq-or-lt_of_le, mul-le-mul_left, mul-le-mul_right}
+use native.Mathlib.Nat.{eq-or-lt_of_le, mul-le-mul_right}
 use lib.ListN.{length-set}
 use lib.Seq.{get_or-set_same, get_or-set_other}
 use Rattle.shape.specs.Below.{any_below}
 use Rattle.shape.specs.Checks.{most_points}
-use Rattle.shape.specs.Shape.{stride}
-use Rattle.shape.proofs.Accepted.{room, axis-small, points-are}
+use Rattle.shape.proofs.Accepted.{room, points-are}
 use Rattle.evaluation.specs.Axes.{query}
 use Rattle.evaluation.specs.Axis.{OneAxis, AxisOf}
-use Rattle.evaluation.specs.ByAxis.{ByAxis, first_at}
+use Rattle.evaluation.specs.ByAxis.{ByAxis}
 use Rattle.evaluation.specs.Granted.{Ready}
-use Rattle.evaluation.specs.Stages.{no_spot, Coordinates, Moved, Placed, Weighs, Slopes, PlacedTo, RowsTo, LookedTo, Weighed, Sloped}
+use Rattle.evaluation.specs.Stages.{no_spot, Coordinates, Placed, Weighs, Slopes, PlacedTo, RowsTo, LookedTo, Sloped}
 use Rattle.evaluation.specs.declared.stages.Spot.{Spot}
 use Rattle.evaluation.proofs.Entries.{query-at, stride-at}
 use Rattle.evaluation.proofs.Reach.{first-none, first_next, below-start, below_next, below-small}
@@ -29,9 +28,6 @@ coordinates-there {n = n} a from m h inside whole = omega (arith, mul-le-mul_rig
 
 -- ---- the rows of a table
 
-pub rows-none : {row : ℕ → List Float} {table : List (List Float)} → RowsTo row 0 table
-rows-none = record { four = λ h. absurd (let q : ⊥ = omega arith in q); at = λ b h. absurd (let q : ⊥ = omega arith in q) }
-
 pub rows-next : {row : ℕ → List Float} {a : ℕ} {old new : List (List Float)} {r : List Float} → RowsTo row a old → length new ≡ 4 → a < 4 → new ≡ set old a r → r ≡ row a → RowsTo row (a + 1) new
 rows-next {row} {a} {old} {new} {r} w four few e same =
     let long : a < length old = omega (arith, sym (length-set old a r) ∙ sym (ap length e) ∙ four) in
@@ -42,6 +38,24 @@ rows-next {row} {a} {old} {new} {r} w four few e same =
         | inr q ↦ get_or-set_other old a b r [] (λ z. let y : ⊥ = omega arith in y) ∙ w.at b q
       ]);
     }
+
+-- those of a query: the weights on one axis more, and the slopes
+module _ {map : ByAxis} {x : List Float} {a : ℕ} {axis : OneAxis} (is : AxisOf map a axis) (few : a < 4) {c : Float} (e : c ≡ get_or x a nan) {old new : Spot} where
+  pub weights-next : Weighs axis a c old new → RowsTo (map.weights x) a old.weights → RowsTo (map.weights x) (a + 1) new.weights
+  weights-next put w = rows-next w put.four few (ap (λ (s : Spot). s.weights) put.is) (ap axis.weights e ∙ sym (is.weights x))
+
+  pub slopes-next : Slopes axis a c old new → RowsTo (map.slopes x) a old.slopes → RowsTo (map.slopes x) (a + 1) new.slopes
+  slopes-next put w = rows-next w put.four few (ap (λ (s : Spot). s.slopes) put.is) (ap axis.slopes e ∙ sym (is.slopes x))
+
+  -- of a gradient; over one axis the weights are not worked out
+  pub sloped-alone : map.count ≤ 1 → Slopes axis a c old new → Sloped map x a old → Sloped map x (a + 1) new
+  sloped-alone one put w = (slopes-next put w.0, λ more. absurd (let q : ⊥ = omega arith in q))
+
+pub sloped-next : {map : ByAxis} {x : List Float} {a : ℕ} {axis : OneAxis} → AxisOf map a axis → a < 4 → {c : Float} → c ≡ get_or x a nan → {old mid new : Spot} → Slopes axis a c old mid → Weighs axis a c mid new → Sloped map x a old → Sloped map x (a + 1) new
+sloped-next is few e put put' w = (
+  rw (← ap (λ (s : Spot). s.slopes) put'.is) at (slopes-next is few e put w.0),
+  λ more. weights-next is few e put' (rw (← ap (λ (s : Spot). s.weights) put.is) at (w.1 more)),
+)
 
 module _ (map : ByAxis) {ss : List ℕ} (ready : Ready map.count map.lens ss) where
   -- ---- one query
@@ -66,15 +80,6 @@ module _ (map : ByAxis) {ss : List ℕ} (ready : Ready map.count map.lens ss) wh
           found = e ∙ first_next (take map.count map.lens) (map.origin x) a w.found (sym o) s;
           inside = rw (e, s) (below_next map.count map.lens ready.four ready.shape a first (axis.origin c) h w.inside (rw is.points at room));
         }
-
-    -- its rows: the weights on one axis more, and the slopes
-    weights-next : {a : ℕ} {axis : OneAxis} {c : Float} (old : Spot) {mid new : Spot} → AxisOf map a axis → a < 4 → c ≡ get_or x a nan → mid.weights ≡ old.weights → Weighs axis a c mid new → RowsTo (map.weights x) a old.weights → RowsTo (map.weights x) (a + 1) new.weights
-    weights-next {a} {axis} {c} old is few e same put w =
-        rows-next w put.four few (rw same at (ap (λ (s : Spot). s.weights) put.is)) (ap axis.weights e ∙ sym (is.weights x))
-
-    slopes-next : {a : ℕ} {axis : OneAxis} {c : Float} (old : Spot) {mid new : Spot} → AxisOf map a axis → a < 4 → c ≡ get_or x a nan → mid.slopes ≡ old.slopes → Slopes axis a c mid new → RowsTo (map.slopes x) a old.slopes → RowsTo (map.slopes x) (a + 1) new.slopes
-    slopes-next {a} {axis} {c} old is few e same put w =
-        rows-next w put.four few (rw same at (ap (λ (s : Spot). s.slopes) put.is)) (ap axis.slopes e ∙ sym (is.slopes x))
 
   -- ---- the queries of a block
 
@@ -127,7 +132,7 @@ module _ (map : ByAxis) {ss : List ℕ} (ready : Ready map.count map.lens ss) wh
               let c = all.at r q ∙ sym (query-at map.count xs n (from + r) a h ready.shape.at-most-four) in
               rw (add-one a, is.no_place (asked r), ← c, p.stopped (omega (arith, all.long))) refl
 
-      -- the weights, and the slopes, by the coordinates of the queries that are left
+      -- the rows, by the coordinates of the queries that are left
       module _ {cs' : List Float} (own : Coordinates xs n from a r cs') where
         same : (k : ℕ) → k < r → get_or cs' k nan ≡ get_or (asked k) a nan
         same k l = own.at k l ∙ sym (query-at map.count xs n (from + k) a h ready.shape.at-most-four)
@@ -135,26 +140,7 @@ module _ (map : ByAxis) {ss : List ℕ} (ready : Ready map.count map.lens ss) wh
         pub kept-same : (k : ℕ) → k < r → get_or cs' k nan ≡ get_or cs k nan
         kept-same k l = own.at k l ∙ sym (all.at k (omega (arith, few-left)))
 
-        pub weigh-next : {new : List Spot} → ((k : ℕ) → k < r → Weighs axis a (get_or cs' k nan) (get_or mid k no_spot) (get_or new k no_spot))
-            → LookedTo (Weighed map) map xs n from m a good spots → LookedTo (Weighed map) map xs n from m (a + 1) r new
-        weigh-next put =
-            looked-next (λ k l. ap (λ (s : Spot). s.first) (put k l).is)
-            (λ k l. weights-next (asked k) (get_or spots k no_spot) is (omega (arith, ready.shape.at-most-four)) (same k l) (p.moved k l).weights (put k l))
-
-        -- over one axis the weights are not worked out
-        pub slope-alone : {new : List Spot} → map.count ≤ 1 → ((k : ℕ) → k < r → Slopes axis a (get_or cs' k nan) (get_or mid k no_spot) (get_or new k no_spot))
-            → LookedTo (Sloped map) map xs n from m a good spots → LookedTo (Sloped map) map xs n from m (a + 1) r new
-        slope-alone one put =
-            looked-next (λ k l. ap (λ (s : Spot). s.first) (put k l).is)
-            (λ k l w. (slopes-next (asked k) (get_or spots k no_spot) is (omega (arith, ready.shape.at-most-four)) (same k l) (p.moved k l).slopes (put k l) w.0, λ more. absurd (let q : ⊥ = omega arith in q)))
-
-        pub slope-next : (sloped : List Spot) {new : List Spot} → ((k : ℕ) → k < r → Slopes axis a (get_or cs' k nan) (get_or mid k no_spot) (get_or sloped k no_spot)) → ((k : ℕ) → k < r → Weighs axis a (get_or cs' k nan) (get_or sloped k no_spot) (get_or new k no_spot))
-            → LookedTo (Sloped map) map xs n from m a good spots → LookedTo (Sloped map) map xs n from m (a + 1) r new
-        slope-next sloped put put' =
-            looked-next (λ k l. ap (λ (s : Spot). s.first) (put' k l).is ∙ ap (λ (s : Spot). s.first) (put k l).is)
-            (λ k l w.
-            let few : a < 4 = omega (arith, ready.shape.at-most-four) in
-            let sl = slopes-next (asked k) (get_or spots k no_spot) is few (same k l) (p.moved k l).slopes (put k l) w.0 in (
-              rw (← ap (λ (s : Spot). s.slopes) (put' k l).is) at sl,
-              λ more. weights-next (asked k) (get_or spots k no_spot) is few (same k l) (ap (λ (s : Spot). s.weights) (put k l).is ∙ (p.moved k l).weights) (put' k l) (w.1 more),
-            ))
+        pub look-next : (Rows : List Float → ℕ → Spot → Type 0) → ((x : List Float) (b : ℕ) (s t : Spot) → t.weights ≡ s.weights → t.slopes ≡ s.slopes → Rows x b s → Rows x b t) → {new : List Spot} → ((k : ℕ) → k < r → (get_or new k no_spot).first ≡ (get_or mid k no_spot).first)
+            → ((x : List Float) (k : ℕ) → k < r → get_or cs' k nan ≡ get_or x a nan → Rows x a (get_or mid k no_spot) → Rows x (a + 1) (get_or new k no_spot)) → LookedTo Rows map xs n from m a good spots → LookedTo Rows map xs n from m (a + 1) r new
+        look-next Rows tables firsts rows =
+            looked-next firsts (λ k l w. rows (asked k) k l (same k l) (tables (asked k) a _ _ (p.moved k l).weights (p.moved k l).slopes w))

@@ -20,8 +20,7 @@ use Rattle.multibspline.specs.Numbers.{f0}
 use Rattle.evaluation.specs.Axes.{zeros, query}
 use Rattle.evaluation.specs.Spline.{Spline, gradient, one_answer, OneValue, OneGradient, batch_answer, gradient_batch_answer}
 use Rattle.evaluation.specs.Entries.{Answered, GradientAnswered}
-use Rattle.evaluation.specs.Batch.{written, bad_at, value_step, gradient_step}
-use Rattle.evaluation.specs.Block.{Block}
+use Rattle.evaluation.specs.Batch.{written, value_step, gradient_step}
 use Rattle.evaluation.proofs.Entries.{axis-at}
 use Rattle.evaluation.proofs.Batches.{written_same}
 
@@ -47,39 +46,18 @@ module _ (s : Spline) (xs : List Float) (n i : ℕ) (out : List Float) where
   unfolding gradient_step
   gradient-written few g e = e ∙ put-ext (λ k. k * n + i) _ _ s.axes out (λ k h. rw g (axis-at f0 nan s.axes (s.part (query s.axes xs n i)) k h few))
 
--- ---- a block of a batch, by what was written for each of its entries
+-- ---- the entries of a block, by what was written for each
 
-module _ (s : Spline) (xs : List Float) (n start m r : ℕ) (out : List Float) {out' : List Float} (most : r ≤ m)
-    (good : (k : ℕ) → k < r → s.refuses (query s.axes xs n (start + k)) ≡ false) (stops : r < m → s.refuses (query s.axes xs n (start + r)) ≡ true) where
-  pub value-block : (v : ℕ → Float) → ((k : ℕ) → k < r → v k ≡ s.value (query s.axes xs n (start + k)))
-      → out' ≡ written (λ k o. set o (start + k) (v k)) r out → Block (bad_at s xs n) (value_step s xs n) start m out r out'
-  unfolding bad_at value_step
-  value-block v same e =
-      record { most = most; good = good; stops = stops; leaves = e ∙ written_same (λ k o. set o (start + k) (v k)) _ r out (λ k h o. ap (set o (start + k)) (same k h)) }
+module _ (s : Spline) (xs : List Float) (n start r : ℕ) (out : List Float) {out' : List Float} where
+  pub values-written : (v : ℕ → Float) → ((k : ℕ) → k < r → v k ≡ s.value (query s.axes xs n (start + k))) → out' ≡ written (λ k o. set o (start + k) (v k)) r out → out' ≡ written (λ k. value_step s xs n (start + k)) r out
+  unfolding value_step
+  values-written v same e = e ∙ written_same (λ k o. set o (start + k) (v k)) _ r out (λ k h o. ap (set o (start + k)) (same k h))
 
-  pub gradient-block : (g : ℕ → ℕ → Float) → ((k j : ℕ) → k < r → j < s.axes → g k j ≡ s.part (query s.axes xs n (start + k)) j)
-      → out' ≡ written (λ k o. put (λ j. j * n + (start + k)) (g k) s.axes o) r out → Block (bad_at s xs n) (gradient_step s xs n) start m out r out'
-  unfolding bad_at gradient_step
-  gradient-block g same e =
-      record {
-        most = most;
-        good = good;
-        stops = stops;
-        leaves = e ∙ written_same (λ k o. put (λ j. j * n + (start + k)) (g k) s.axes o) _ r out (λ k h o. put-ext (λ j. j * n + (start + k)) _ _ s.axes o (λ j l. same k j h l));
-      }
-
-  -- over one axis, the one part
-  pub slope-block : s.axes ≡ 1 → (v : ℕ → Float) → ((k : ℕ) → k < r → v k ≡ s.part (query s.axes xs n (start + k)) 0)
-      → out' ≡ written (λ k o. set o (start + k) (v k)) r out → Block (bad_at s xs n) (gradient_step s xs n) start m out r out'
-  unfolding bad_at gradient_step
-  slope-block one v same e =
-      let here : (k : ℕ) → 0 * n + (start + k) ≡ start + k = λ k. omega arith in
-      record {
-        most = most;
-        good = good;
-        stops = stops;
-        leaves = e ∙ written_same (λ k o. set o (start + k) (v k)) _ r out (λ k h o. rw one (rw (here k, ← (rw one at (same k h)))));
-      }
+  pub gradients-written : (g : ℕ → ℕ → Float) → ((k j : ℕ) → k < r → j < s.axes → g k j ≡ s.part (query s.axes xs n (start + k)) j)
+      → out' ≡ written (λ k o. put (λ j. j * n + (start + k)) (g k) s.axes o) r out → out' ≡ written (λ k. gradient_step s xs n (start + k)) r out
+  unfolding gradient_step
+  gradients-written g same e =
+      e ∙ written_same (λ k o. put (λ j. j * n + (start + k)) (g k) s.axes o) _ r out (λ k h o. put-ext (λ j. j * n + (start + k)) _ _ s.axes o (λ j l. same k j h l))
 
 -- ---- the checks of a map, and what follows them
 

@@ -1,7 +1,6 @@
 -- What a block of a batch leaves. Assumes nothing.
 use Rattle.std.specs.Prelude.{◌≡◌, Bool, true, false, List, ℕ, ◌+◌, ◌*◌, ◌≤◌, ◌<◌, get_or, Float}
-use Rattle.evaluation.specs.Spline.{Spline}
-use Rattle.evaluation.specs.Batch.{written, bad_at, value_step, gradient_step}
+use Rattle.evaluation.specs.Batch.{written}
 
 -- how far the coefficients of a query reach past the first; unused strides are 0
 abbrev pub reach : List ℕ → ℕ
@@ -13,10 +12,3 @@ pub record Block (bad : ℕ → Bool) (step : ℕ → List Float → List Float)
   pub good : (k : ℕ) → k < r → bad (start + k) ≡ false
   pub stops : r < m → bad (start + r) ≡ true
   pub leaves : out' ≡ written (λ k. step (start + k)) r out
-
--- on a map: values, and gradients
-abbrev pub ValueBlock : Spline → List Float → ℕ → ℕ → ℕ → List Float → ℕ → List Float → Type 0
-ValueBlock s xs n start m out r out' = Block (bad_at s xs n) (value_step s xs n) start m out r out'
-
-abbrev pub GradientBlock : Spline → List Float → ℕ → ℕ → ℕ → List Float → ℕ → List Float → Type 0
-GradientBlock s xs n start m out r out' = Block (bad_at s xs n) (gradient_step s xs n) start m out r out'

@@ -1,7 +1,8 @@
 -- A block of queries of a batch in stages, on either grid: query `from` and those after it, of n, of coordinates that stand axis after
 -- axis. What functions of the library promise each other; a caller has no use for it. Assumes nothing.
-use Rattle.std.specs.Prelude.{◌≡◌, Bool, true, false, List, [], ℕ, ◌+◌, ◌*◌, ◌≤◌, ◌<◌, length, get_or, set, Float}
+use Rattle.std.specs.Prelude.{◌≡◌, true, false, List, [], ℕ, ◌+◌, ◌*◌, ◌≤◌, ◌<◌, length, get_or, set, Float}
 use Rattle.std.specs.Float.{nan}
+use native.Mathlib.Nat.{not-suc-le-zero}
 use Rattle.shape.specs.Below.{any_below}
 use Rattle.evaluation.specs.Axes.{query}
 use Rattle.evaluation.specs.Axis.{OneAxis}
@@ -55,6 +56,10 @@ pub record PlacedTo (m : ByAxis) (x : List Float) (a first : ℕ) : Type 0 where
 pub record RowsTo (row : ℕ → List Float) (a : ℕ) (table : List (List Float)) : Type 0 where
   pub four : 0 < a → length table ≡ 4
   pub at : (b : ℕ) → b < a → get_or table b [] ≡ row b
+
+-- on no axis there is none to have
+pub no_rows : {row : ℕ → List Float} {table : List (List Float)} → RowsTo row 0 table
+no_rows = record { four = λ h. absurd (not-suc-le-zero h); at = λ b h. absurd (not-suc-le-zero h) }
 
 -- of m queries from `from` of n on the first `good` have a place on each, and Rows of them; the next has none on some axis
 pub record LookedTo (Rows : List Float → ℕ → Spot → Type 0) (map : ByAxis) (xs : List Float) (n from m a good : ℕ) (spots : List Spot) : Type 0 where

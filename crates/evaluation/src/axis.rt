@@ -1,5 +1,6 @@
 // One axis of a map, on either grid.
-ghost use Rattle.std.specs.Prelude.{◌≡◌, ℕ, true, Bool, Float, List, MatchOption};
+ghost use Rattle.std.specs.Mem.{type_size};
+ghost use Rattle.std.specs.Prelude.{◌≡◌, ◌*◌, ◌<◌, ◌^◌, ℕ, true, Bool, Float, List, MatchOption};
 ghost use Rattle.evaluation.specs.Axis.{OneAxis, FoundAt};
 
 // What an axis can be asked. A place is kept between the stages of a block, so that slopes and weights need not find it again.
@@ -10,6 +11,10 @@ pub trait Axis: Copy {
 
     // what is kept of the place of a coordinate
     ghost Kept: { Self → Float → Self.Place → Type 0 };
+
+    // As a buffer of places is filled before its first block. A block's places lie in memory.
+    fn blank() -> Self::Place
+        ensures { 32 * type_size Self.Place.row < 2 ^ 63 };
 
     // The first of the four coefficients that count at x, and the place; None where x has no place.
     fn place(self, x: f64) -> Option<(usize, Self::Place)>

@@ -3,6 +3,7 @@
 
 mod axis;
 mod block;
+mod figures;
 mod in_use;
 mod map;
 mod places;
@@ -11,8 +12,9 @@ mod strides;
 
 pub use axis::Axis;
 pub use block::block_size;
+pub use figures::Figures;
 pub use in_use::{used_floats, used_lens};
-pub use map::{Map, Span, slope, weigh};
+pub use map::{Map, Span, look};
 pub use places::{put_parts, query};
-pub use stages::Spot;
+pub use stages::{SlopeTable, Spot, WeightTable, put_rows};
 pub use strides::{points_by_stride, strides_of};

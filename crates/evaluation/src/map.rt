@@ -4,10 +4,11 @@ ghost use Rattle.std.specs.Float.{nan};
 ghost use Rattle.evaluation.specs.Axis.{AxisOf};
 ghost use Rattle.evaluation.specs.ByAxis.{ByAxis};
 ghost use Rattle.evaluation.specs.Granted.{Ready};
-ghost use Rattle.evaluation.specs.Stages.{no_spot, Coordinates, LookedTo, Weighed, Sloped};
+ghost use Rattle.evaluation.specs.Stages.{no_spot, Coordinates, LookedTo};
 
 use crate::axis::Axis;
-use crate::stages::{Spot, put_places, put_slopes, put_weights};
+use crate::figures::Figures;
+use crate::stages::{Spot, put_places};
 
 // An accepted map, on either grid.
 pub trait Map {
@@ -33,6 +34,7 @@ pub struct Span<'a> {
     pub n: usize,
     pub from: usize,
     pub m: usize,
+    ghost within: { from + m ≤ n },
 }
 
 impl<'a> Span<'a> {
@@ -46,60 +48,35 @@ impl<'a> Span<'a> {
     }
 }
 
-// The first coefficients before any axis is looked at.
-fn zero_firsts(m: usize, spots: &mut [Spot])
-    requires { m ≤ length spots.old }
-    ensures { (k : ℕ) → k < m → (get_or spots.new k no_spot).first ≡ 0 }
+// The first coefficients of the queries before any axis is looked at.
+fn zero_firsts(spots: &mut [Spot])
+    ensures { (k : ℕ) → k < length spots.old → (get_or spots.new k no_spot).first ≡ 0 }
 {
-    for k in 0..m {
-        spots[k].first = 0;
+    for spot in spots.iter_mut() {
+        spot.first = 0;
     }
 }
 
-// The places and the weights, axis after axis, up to the first query that some axis has no place for: how many come before it. An
+// The places and the rows, axis after axis, up to the first query that some axis has no place for: how many come before it. An
 // axis looks at the queries that the axes before it have a place for.
-pub fn weigh<M: Map>(
+pub fn look<F: Figures, M: Map>(
     map: &M,
     s: Span,
     places: &mut [<M::Along as Axis>::Place],
     spots: &mut [Spot],
 ) -> usize
-    requires room { (s.from + s.m ≤ s.n) × ((M.view map.now).count * s.n ≤ length s.xs.now) × (s.m ≤ length places.old) × (s.m ≤ length spots.old) }
-    ensures { LookedTo (Weighed (M.view map.now)) (M.view map.now) s.entry.xs.now s.entry.n s.entry.from s.entry.m (M.view map.now).count result spots.new }
-{
-    let strides = map.strides();
-    zero_firsts(s.m, spots);
-    let mut good = s.m;
-    for a in 0..map.count() {
-        let axis = map.axis(a);
-        good = put_places(axis, strides[a], s.along(a, good), places, spots);
-        put_weights(axis, a, s.along(a, good), places, spots);
-    }
-    good
-}
-
-// The same for gradients: the places, the slopes, and the weights where there is more than one axis.
-pub fn slope<M: Map>(
-    map: &M,
-    s: Span,
-    places: &mut [<M::Along as Axis>::Place],
-    spots: &mut [Spot],
-) -> usize
-    requires room { (s.from + s.m ≤ s.n) × ((M.view map.now).count * s.n ≤ length s.xs.now) × (s.m ≤ length places.old) × (s.m ≤ length spots.old) }
-    ensures { LookedTo (Sloped (M.view map.now)) (M.view map.now) s.entry.xs.now s.entry.n s.entry.from s.entry.m (M.view map.now).count result spots.new }
+    requires room { ((M.view map.now).count * s.n ≤ length s.xs.now) × (s.m ≤ length places.old) × (s.m ≤ length spots.old) }
+    ensures { LookedTo (F.Rows (M.view map.now)) (M.view map.now) s.entry.xs.now s.entry.n s.entry.from s.entry.m (M.view map.now).count result spots.new }
 {
     let strides = map.strides();
     let count = map.count();
-    zero_firsts(s.m, spots);
+    zero_firsts(&mut spots[..s.m]);
     let mut good = s.m;
+    // counted: the axis, its stride and its coordinates are each asked for by its number
     for a in 0..count {
         let axis = map.axis(a);
         good = put_places(axis, strides[a], s.along(a, good), places, spots);
-        let xs = s.along(a, good);
-        put_slopes(axis, a, xs, places, spots);
-        if 1 < count {
-            put_weights(axis, a, xs, places, spots);
-        }
+        F::look(axis, count, a, s.along(a, good), places, spots);
     }
     good
 }

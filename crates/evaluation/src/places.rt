@@ -10,10 +10,9 @@ pub fn query(xs: &[f64], n: usize, i: usize, count: usize) -> [f64; 4]
     ensures { result ≡ query count xs.now n i }
 {
     let mut x = [0.0f64; 4];
-    let mut a: usize = 0;
-    while a < count {
+    // counted: the coordinates stand n apart, and no slice has them side by side
+    for a in 0..count {
         x[a] = xs[a * n + i];
-        a += 1;
     }
     x
 }
@@ -23,7 +22,7 @@ pub fn put_parts(parts: [f64; 4], count: usize, n: usize, i: usize, out: &mut [f
     requires { (count ≤ 4) × (i < n) × (count * n ≤ length out.old) }
     ensures { out.new ≡ put (λ k. k * n + i) (λ k. get_or parts k nan) count out.old }
 {
-    for k in 0..count {
-        out[k * n + i] = parts[k];
+    for (k, part) in parts[..count].iter().enumerate() {
+        out[k * n + i] = *part;
     }
 }

@@ -1,4 +1,4 @@
-// One axis of a block of queries, in three stages: the places of the coordinates, the weights, the slopes. Each is one loop over the
+// One axis of a block of queries, in stages: the places of the coordinates, then the rows of a table, the weights or the slopes. Each is one loop over the
 // queries, so that the processor works on several at once; every query goes through its own operations in their order, so that no
 // bit can change.
 ghost use Rattle.std.specs.Prelude.{◌≡◌, ℕ, [], ◌+◌, ◌*◌, ◌≤◌, ◌<◌, length, get_or, set, Float};
@@ -6,6 +6,7 @@ ghost use Rattle.std.specs.Float.{nan};
 ghost use Rattle.shape.specs.Checks.{most_points};
 ghost use Rattle.evaluation.specs.Axis.{OneAxis};
 ghost use Rattle.evaluation.specs.Stages.{no_spot, Placed, Weighs, Slopes};
+ghost use Rattle.evaluation.specs.declared.stages.Spot.{Spot};
 
 use crate::axis::Axis;
 
@@ -64,24 +65,55 @@ fn put_row(table: &mut [[f64; 4]; 4], a: usize, row: [f64; 4])
     table[a] = row;
 }
 
-// Their weights on axis a, by the places.
-pub fn put_weights<A: Axis>(axis: A, a: usize, xs: &[f64], places: &[A::Place], spots: &mut [Spot])
-    requires enough { (a < 4) × (length xs.now ≤ length places.now) × (length xs.now ≤ length spots.old) }
-    requires kept { (k : ℕ) (none : A.Place) → k < length xs.now → A.Kept axis (get_or xs.now k nan) (get_or places.now k none) }
-    ensures { (k : ℕ) → k < length xs.now → Weighs (A.view axis) a (get_or xs.now k nan) (get_or spots.old k no_spot) (get_or spots.new k no_spot) }
-{
-    for (k, x) in xs.iter().enumerate() {
-        put_row(&mut spots[k].weights, a, axis.weights(places[k], *x));
+// One of the two tables of a spot.
+pub trait Table {
+    // row a is worked out from a coordinate; what else the spot has stays
+    ghost Puts: { OneAxis → ℕ → Float → Spot → Spot → Type 0 };
+
+    // Row a, by a place that was found.
+    fn put<A: Axis>(axis: A, a: usize, place: A::Place, x: f64, spot: &mut Spot)
+        requires { (a < 4) × A.Kept axis x place }
+        ensures { Puts (A.view axis) a x spot.old spot.new };
+}
+
+// The weights.
+pub struct WeightTable;
+
+// The slopes.
+pub struct SlopeTable;
+
+// Each is compiled into the loop over the queries.
+impl Table for WeightTable {
+    ghost Puts = { Weighs };
+
+    #[inline(always)]
+    fn put<A: Axis>(axis: A, a: usize, place: A::Place, x: f64, spot: &mut Spot) {
+        put_row(&mut spot.weights, a, axis.weights(place, x));
     }
 }
 
-// Their slopes.
-pub fn put_slopes<A: Axis>(axis: A, a: usize, xs: &[f64], places: &[A::Place], spots: &mut [Spot])
+impl Table for SlopeTable {
+    ghost Puts = { Slopes };
+
+    #[inline(always)]
+    fn put<A: Axis>(axis: A, a: usize, place: A::Place, x: f64, spot: &mut Spot) {
+        put_row(&mut spot.slopes, a, axis.slopes(place, x));
+    }
+}
+
+// Their rows a of a table, by the places.
+pub fn put_rows<T: Table, A: Axis>(
+    axis: A,
+    a: usize,
+    xs: &[f64],
+    places: &[A::Place],
+    spots: &mut [Spot],
+)
     requires enough { (a < 4) × (length xs.now ≤ length places.now) × (length xs.now ≤ length spots.old) }
     requires kept { (k : ℕ) (none : A.Place) → k < length xs.now → A.Kept axis (get_or xs.now k nan) (get_or places.now k none) }
-    ensures { (k : ℕ) → k < length xs.now → Slopes (A.view axis) a (get_or xs.now k nan) (get_or spots.old k no_spot) (get_or spots.new k no_spot) }
+    ensures { (k : ℕ) → k < length xs.now → T.Puts (A.view axis) a (get_or xs.now k nan) (get_or spots.old k no_spot) (get_or spots.new k no_spot) }
 {
     for (k, x) in xs.iter().enumerate() {
-        put_row(&mut spots[k].slopes, a, axis.slopes(places[k], *x));
+        T::put(axis, a, places[k], *x, &mut spots[k]);
     }
 }

@@ -1,5 +1,7 @@
 // A rectilinear axis, and what it answers a coordinate.
-ghost use Rattle.std.specs.Prelude.{◌≡◌, true, false, ◌≤◌, length};
+ghost use denote.Builtin.{usize};
+ghost use Rattle.std.specs.Mem.{type_size};
+ghost use Rattle.std.specs.Prelude.{◌≡◌, ◌*◌, ◌<◌, ◌^◌, true, false, ◌≤◌, length};
 ghost use Rattle.std.specs.Float.{binary64};
 ghost use Rattle.knots.specs.Knots.{rises, count_below};
 ghost use Rattle.rectilinear_weights.specs.Records.{ghost_numbers};
@@ -30,6 +32,12 @@ impl<'a> Axis for Knots<'a> {
     ghost view = { λ k. rectilinear_axis binary64 k.knots.now (ghost_numbers k.low) (ghost_numbers k.high) k.linear };
 
     ghost Kept = { λ k x c. c ≡ count_below k.knots.now x };
+
+    fn blank() -> usize
+        ensures { 32 * type_size usize < 2 ^ 63 }
+    {
+        0
+    }
 
     fn place(self, x: f64) -> Option<(usize, usize)> {
         let c = count_below(self.knots, x);

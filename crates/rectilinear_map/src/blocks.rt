@@ -1,4 +1,4 @@
-// The queries of a batch on a rectilinear map: the buffers of a block are declared here and lent.
+// The queries of a batch on a rectilinear map.
 ghost use Rattle.std.specs.Prelude.{◌≡◌, ◌*◌, ◌≤◌, length, take};
 ghost use Rattle.std.specs.Float.{binary64};
 ghost use Rattle.shape.specs.Shape.{size};
@@ -7,8 +7,7 @@ ghost use Rattle.evaluation.specs.Entries.{ValueEntries, GradientEntries};
 ghost use Rattle.rectilinear_blocks.specs.Eval.{rectilinear};
 ghost use Rattle.rectilinear_blocks.specs.Records.{map_of};
 
-use block_sums::{gradient_batch, value_batch};
-use evaluation::Spot;
+use block_sums::{Gradients, Values, batch};
 use rectilinear_blocks::Grid;
 use shape::Refusal;
 
@@ -23,9 +22,7 @@ pub fn put_values(
     requires { (length coeffs.now ≡ size (take map.count map.dims)) × (map.count * n ≤ length xs.now) × (n ≤ length out.old) }
     ensures { ValueEntries (rectilinear binary64 (map_of map.entry) map.entry.knots.now coeffs.now) xs.now n out.old (answer_number result) out.new }
 {
-    let mut places = [0usize; 32];
-    let mut spots = [Spot::blank(); 32];
-    value_batch(&map, coeffs, xs, n, &mut places, &mut spots, out)
+    batch::<Values, Grid>(&map, coeffs, xs, n, out)
 }
 
 // The gradients of n queries, up to the first that is refused.
@@ -39,7 +36,5 @@ pub fn put_gradients(
     requires { (length coeffs.now ≡ size (take map.count map.dims)) × (map.count * n ≤ length xs.now) × (map.count * n ≤ length out.old) }
     ensures { GradientEntries (rectilinear binary64 (map_of map.entry) map.entry.knots.now coeffs.now) xs.now n out.old (answer_number result) out.new }
 {
-    let mut places = [0usize; 32];
-    let mut spots = [Spot::blank(); 32];
-    gradient_batch(&map, coeffs, xs, n, &mut places, &mut spots, out)
+    batch::<Gradients, Grid>(&map, coeffs, xs, n, out)
 }

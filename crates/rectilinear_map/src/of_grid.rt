@@ -1,6 +1,8 @@
 // The value at a single query of the map that a grid makes, for a caller that has the grid and no record: the ghost numbers of an
 // axis are worked out only where the query lies at an end of it, and only those of that end.
-ghost use Rattle.std.specs.Prelude.{◌≡◌, true, ◌≤◌, length, take};
+ghost use denote.Builtin.{usize};
+ghost use Rattle.std.specs.Mem.{type_size};
+ghost use Rattle.std.specs.Prelude.{◌≡◌, ◌*◌, ◌<◌, ◌^◌, true, ◌≤◌, length, take};
 ghost use Rattle.multibspline.specs.Numbers.{f0};
 ghost use Rattle.std.specs.Float.{binary64};
 ghost use Rattle.shape.specs.Refusal.{answer_number, answer_or};
@@ -61,6 +63,12 @@ impl<'a> Axis for Knots<'a> {
     ghost view = { λ k. rectilinear_axis binary64 k.knots.now (low_ghost_coeffs binary64 k.knots.now) (high_ghost_coeffs binary64 k.knots.now) k.linear };
 
     ghost Kept = { λ k x c. c ≡ count_below k.knots.now x };
+
+    fn blank() -> usize
+        ensures { 32 * type_size usize < 2 ^ 63 }
+    {
+        0
+    }
 
     fn place(self, x: f64) -> Option<(usize, usize)> {
         let c = count_below(self.knots, x);
@@ -141,6 +149,5 @@ pub fn value(
         knots: grid,
         linear: linear,
     };
-    let mut places = [0usize; 1];
-    single_value(&map, coeffs, x, &mut places)
+    single_value(&map, coeffs, x)
 }

@@ -18,8 +18,7 @@ pub fn value_at(map: Grid, coeffs: &[f64], x: &[f64]) -> Result<f64, Refusal>
     requires { (length coeffs.now ≡ size (take map.count map.dims)) × (map.count ≤ length x.now) }
     ensures { Answered (rectilinear binary64 (map_of map.entry) map.entry.knots.now coeffs.now) (query map.entry.count x.now 1 0) (answer_number result) (answer_or f0 result) }
 {
-    let mut places = [0usize; 1];
-    single_value(&map, coeffs, x, &mut places)
+    single_value(&map, coeffs, x)
 }
 
 // The gradient at a query.
@@ -27,6 +26,5 @@ pub fn gradient_at(map: Grid, coeffs: &[f64], x: &[f64]) -> Result<[f64; 4], Ref
     requires { (length coeffs.now ≡ size (take map.count map.dims)) × (map.count ≤ length x.now) }
     ensures { GradientAnswered (rectilinear binary64 (map_of map.entry) map.entry.knots.now coeffs.now) (query map.entry.count x.now 1 0) (answer_number result) (answer_or zeros result) }
 {
-    let mut places = [0usize; 1];
-    single_gradient(&map, coeffs, x, &mut places)
+    single_gradient(&map, coeffs, x)
 }

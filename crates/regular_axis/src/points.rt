@@ -37,6 +37,13 @@ impl Axis for Points {
 
     ghost Kept = { λ p x seat. SeatAt binary64 p.n p.start p.step x seat.sat seat.t };
 
+    fn blank() -> Seat {
+        Seat {
+            sat: Saturation::None,
+            t: 0.0,
+        }
+    }
+
     #[inline(always)]
     fn place(self, x: f64) -> Option<(usize, Seat)> {
         match get_loc(self.n, self.start, self.step, x) {

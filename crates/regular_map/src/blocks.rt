@@ -1,4 +1,4 @@
-// The queries of a batch on a regular map: the buffers of a block are declared here and lent.
+// The queries of a batch on a regular map.
 ghost use Rattle.std.specs.Prelude.{◌≡◌, ◌*◌, ◌≤◌, length, take};
 ghost use Rattle.std.specs.Float.{binary64};
 ghost use Rattle.shape.specs.Shape.{size};
@@ -7,20 +7,9 @@ ghost use Rattle.evaluation.specs.Entries.{ValueEntries, GradientEntries};
 ghost use Rattle.regular_blocks.specs.Checks.{regular};
 ghost use Rattle.regular_blocks.specs.Records.{map_of};
 
-use block_sums::{gradient_batch, value_batch};
-use evaluation::Spot;
-use multibspline::Saturation;
-use regular_axis::Seat;
+use block_sums::{Gradients, Values, batch};
 use regular_blocks::Grid;
 use shape::Refusal;
-
-// As a buffer of places is filled before its first block.
-pub fn no_seat() -> Seat {
-    Seat {
-        sat: Saturation::None,
-        t: 0.0,
-    }
-}
 
 // The values of n queries, up to the first that is refused.
 pub fn put_values(
@@ -33,9 +22,7 @@ pub fn put_values(
     requires { (length coeffs.now ≡ size (take grid.count grid.dims)) × (grid.count * n ≤ length xs.now) × (n ≤ length out.old) }
     ensures { ValueEntries (regular binary64 (map_of grid) coeffs.now) xs.now n out.old (answer_number result) out.new }
 {
-    let mut places = [no_seat(); 32];
-    let mut spots = [Spot::blank(); 32];
-    value_batch(&grid, coeffs, xs, n, &mut places, &mut spots, out)
+    batch::<Values, Grid>(&grid, coeffs, xs, n, out)
 }
 
 // The gradients of n queries, up to the first that is refused.
@@ -49,7 +36,5 @@ pub fn put_gradients(
     requires { (length coeffs.now ≡ size (take grid.count grid.dims)) × (grid.count * n ≤ length xs.now) × (grid.count * n ≤ length out.old) }
     ensures { GradientEntries (regular binary64 (map_of grid) coeffs.now) xs.now n out.old (answer_number result) out.new }
 {
-    let mut places = [no_seat(); 32];
-    let mut spots = [Spot::blank(); 32];
-    gradient_batch(&grid, coeffs, xs, n, &mut places, &mut spots, out)
+    batch::<Gradients, Grid>(&grid, coeffs, xs, n, out)
 }

@@ -10,7 +10,6 @@ ghost use Rattle.regular_blocks.specs.Checks.{regular};
 ghost use Rattle.regular_blocks.specs.Records.{map_of};
 ghost use Rattle.regular_map.specs.OneQuery.{LookedAt};
 
-use crate::blocks::no_seat;
 use block_sums::{single_gradient, value};
 use evaluation::{Axis, Map};
 use regular_blocks::Grid;
@@ -117,6 +116,5 @@ pub fn gradient_at(grid: Grid, coeffs: &[f64], x: &[f64]) -> Result<[f64; 4], Re
     requires { (length coeffs.now ≡ size (take grid.count grid.dims)) × (grid.count ≤ length x.now) }
     ensures { GradientAnswered (regular binary64 (map_of grid) coeffs.now) (query grid.count x.now 1 0) (answer_number result) (answer_or zeros result) }
 {
-    let mut places = [no_seat(); 1];
-    single_gradient(&grid, coeffs, x, &mut places)
+    single_gradient(&grid, coeffs, x)
 }

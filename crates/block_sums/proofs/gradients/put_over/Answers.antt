@@ -1,4 +1,4 @@
-use Rattle.std.proofs.Common.{◌≡◌, suc, ◌+◌, ◌∙◌, ap, add-one, arith, below_more}
+use Rattle.std.proofs.Common.{◌≡◌, suc, ◌+◌, ◌∙◌, arith, below_more}
 use Rattle.std.specs.Float.{binary64}
 use Rattle.shape.proofs.Cells.{put-ext}
 use Rattle.evaluation.proofs.Blocks.{writing_start, writing-put, writing-done}

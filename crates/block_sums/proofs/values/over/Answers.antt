@@ -1,7 +1,7 @@
-use Rattle.std.proofs.Common.{◌∙◌, ap, [], get_or, Float, ℕ}
+use Rattle.std.proofs.Common.{◌∙◌, ap, [], get_or, ℕ}
 use Rattle.std.specs.Float.{binary64}
 use Rattle.interp_math.specs.Sum.{dot4}
-use Rattle.block_sums.proofs.OfQuery.{sums-within, value-end}
+use Rattle.block_sums.proofs.OfQuery.{value-end}
 use Rattle.block_sums.proofs.values.over.Goals as goal
 
 pub returns : goal.returns

@@ -1,5 +1,4 @@
-use Rattle.std.proofs.Common.{arith}
-use Rattle.evaluation.proofs.Blocks.{writing_start, writing-set, writing-done}
+use Rattle.evaluation.proofs.Blocks.{writing_start, writing-set}
 use Rattle.block_sums.proofs.values.put_values.Goals as goal
 
 pub loop-k-init : goal.loop-k-init

@@ -1,12 +1,7 @@
-use mathlib.Core.Path.{◌≡◌}
-use Prim.Native.Nat.{◌+◌, ◌*◌, ◌-◌, ◌≤◌}
-use lib.ListN.{length, get_or}
-use lib.Ieee.{nan}
+use Rattle.std.proofs.Common.{◌≡◌, ◌+◌, ◌*◌, length, get_or}
+use Rattle.std.specs.Float.{nan}
 use Rattle.shape.specs.Cells.{put}
 use Rattle.evaluation.proofs.places.put_parts.Given as goal
 
 abbrev pub invariant-loop-k : goal.invariant-loop-k
-invariant-loop-k l = (l.k ≤ l.count) × (length l.out ≡ length l.initial.out) × (l.out ≡ put (λ j. j * l.n + l.i) (λ j. get_or l.parts j nan) l.k l.initial.out)
-
-abbrev pub decreases-loop-k : goal.decreases-loop-k
-decreases-loop-k l = l.count - l.k
+invariant-loop-k l = (length l.out ≡ length l.initial.out) × (l.out ≡ put (λ j. j * l.n + l.i) (λ j. get_or l.fn.parts j nan) l.k l.initial.out)

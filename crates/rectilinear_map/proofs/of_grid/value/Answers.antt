@@ -40,7 +40,7 @@ pub single_value-requires : goal.single_value-requires
 single_value-requires c =
     let a = c.args in
     let sound = told-sound a.count a.dims a.grid.now (length a.coeffs.now) (omega (arith, c.well_formed)) c.in_ok-check_map.ensures in
-    (sound.sized, omega (arith, c.if-x-count.false), omega arith)
+    (sound.sized, omega (arith, c.if-x-count.false))
 
 pub returns : goal.returns
 unfolding map_answer
