@@ -1,17 +1,15 @@
 -- The gradient over one axis, and the loop over the entries of a block. Assumes nothing.
 use mathlib.Core.Path.{◌≡◌, refl, sym, ap, ◌∙◌}
-use mathlib.Core.Logic.{◌≢◌}
 use mathlib.Core.List.{List, []}
-use Prim.Native.Nat.{ℕ, zero, suc, ◌+◌, ◌*◌, ◌≤◌, ◌<◌}
+use Prim.Native.Nat.{ℕ, ◌+◌, ◌*◌, ◌≤◌, ◌<◌}
 use native.Mathlib.Numerals.{add-one}
 use native.Mathlib.Omega.{arith}
 use lib.ListN.{length, get_or, set, length-set}
 use lib.Seq.{get_or-set_same}
-use lib.Ieee.{Float, nan, Format}
-use Rattle.shape.specs.Cells.{put, from}
-use Rattle.shape.proofs.Cells.{length-put, from_in, put_other}
+use lib.Ieee.{Float, Format}
+use Rattle.shape.specs.Cells.{put}
+use Rattle.shape.proofs.Cells.{length-put}
 use Rattle.interp_math.specs.Sum.{summed, gradient_part}
-use Rattle.interp_math.proofs.Four.{four}
 use Rattle.interp_math.proofs.Summed.{summed-ext}
 use Rattle.evaluation.specs.Axes.{rows}
 use Rattle.evaluation.specs.Granted.{RowsOn}

@@ -1,26 +1,19 @@
 -- A map axis by axis: its figures follow from the rows that were worked out. For every format. Assumes nothing.
-use mathlib.Core.Path.{◌≡◌, refl, sym, ap, ap₂, ◌∙◌}
-use mathlib.Core.Bool.{Bool, true, false, ◌||◌}
-use mathlib.Core.Logic.{◌⊎◌, inl, inr}
+use mathlib.Core.Path.{◌≡◌, ap, ap₂, ◌∙◌}
+use mathlib.Core.Bool.{true, false}
 use mathlib.Core.List.{List}
-use Prim.Native.Nat.{ℕ, ◌+◌, ◌*◌, ◌≤◌, ◌<◌}
-use native.Mathlib.Nat.{eq-or-lt_of_le}
-use native.Mathlib.Omega.{arith}
-use native.Mathlib.Numerals.{add-one}
-use lib.ListN.{length, get_or, set, take}
+use Prim.Native.Nat.{ℕ, ◌≤◌, ◌<◌}
+use lib.ListN.{take}
 use lib.Ieee.{Float, Format}
 use Rattle.shape.specs.Below.{any_below}
-use Rattle.shape.specs.Cells.{put}
-use Rattle.shape.specs.Checks.{Check, most_points}
-use Rattle.shape.specs.Shape.{size, stride}
-use Rattle.shape.specs.Usable.{Usable}
-use Rattle.shape.proofs.Below.{none-at, any_none, any-ext}
+use Rattle.shape.specs.Checks.{Check}
+use Rattle.shape.specs.Shape.{stride}
+use Rattle.shape.proofs.Below.{any_none, any-ext}
 use Rattle.interp_math.specs.Sum.{summed, gradient_part}
-use Rattle.evaluation.specs.Axes.{per_axis, zeros, query, rows, strides, first_over}
-use Rattle.evaluation.specs.Granted.{Reaches, RowsOn, Below}
+use Rattle.evaluation.specs.Axes.{per_axis, zeros, rows, strides, first_over}
+use Rattle.evaluation.specs.Granted.{RowsOn}
 use Rattle.evaluation.specs.ByAxis.{ByAxis, refuses, first_at, value_at, part_at, spline_of}
-use Rattle.evaluation.specs.Batch.{written, bad_at, value_step, gradient_step}
-use Rattle.evaluation.proofs.Entries.{value-rows, part-rows, within_by}
+use Rattle.evaluation.proofs.Entries.{value-rows, part-rows}
 use Rattle.evaluation.proofs.InUse.{per-axis-same, first-same}
 use Rattle.evaluation.proofs.Blocks.{slope-sum}
 

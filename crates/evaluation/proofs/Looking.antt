@@ -1,18 +1,17 @@
 -- A block of queries axis after axis, on either grid: before any axis, and one axis more. Assumes nothing.
 use Rattle.std.proofs.Common.{◌≡◌, refl, sym, ap, ◌∙◌, true, false, Bool, ◌||◌, ◌⊎◌, inl, inr, List, [], ℕ, ◌+◌, ◌*◌, ◌≤◌, ◌<◌, length, get_or, take, set, Float, arith, add-one}
 use Rattle.std.specs.Float.{nan}
-use native.Mathlib.Nat.{eq-or-lt_of_le, mul-le-mul_left, mul-le-mul_right}
+use native.Mathlib.Nat.{eq-or-lt_of_le, mul-le-mul_right}
 use lib.ListN.{length-set}
 use lib.Seq.{get_or-set_same, get_or-set_other}
 use Rattle.shape.specs.Below.{any_below}
 use Rattle.shape.specs.Checks.{most_points}
-use Rattle.shape.specs.Shape.{stride}
-use Rattle.shape.proofs.Accepted.{room, axis-small, points-are}
+use Rattle.shape.proofs.Accepted.{room, points-are}
 use Rattle.evaluation.specs.Axes.{query}
 use Rattle.evaluation.specs.Axis.{OneAxis, AxisOf}
-use Rattle.evaluation.specs.ByAxis.{ByAxis, first_at}
+use Rattle.evaluation.specs.ByAxis.{ByAxis}
 use Rattle.evaluation.specs.Granted.{Ready}
-use Rattle.evaluation.specs.Stages.{no_spot, Coordinates, Moved, Placed, Weighs, Slopes, PlacedTo, RowsTo, LookedTo, Weighed, Sloped}
+use Rattle.evaluation.specs.Stages.{no_spot, Coordinates, Placed, Weighs, Slopes, PlacedTo, RowsTo, LookedTo, Weighed, Sloped}
 use Rattle.evaluation.specs.declared.stages.Spot.{Spot}
 use Rattle.evaluation.proofs.Entries.{query-at, stride-at}
 use Rattle.evaluation.proofs.Reach.{first-none, first_next, below-start, below_next, below-small}

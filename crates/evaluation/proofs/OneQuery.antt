@@ -1,6 +1,6 @@
 -- A single query, axis after axis, on either grid: before any axis, one axis more, and what it answers once all are done. For every
 -- format. Assumes nothing.
-use Rattle.std.proofs.Common.{◌≡◌, refl, sym, ap, subst, ◌∙◌, true, false, inl, inr, List, [], ◌∷◌, ◌++◌, ℕ, suc, ◌+◌, ◌*◌, ◌-◌, ◌≤◌, ◌<◌, length, get_or, take, Float, arith, add-one}
+use Rattle.std.proofs.Common.{◌≡◌, refl, sym, ap, subst, ◌∙◌, true, inl, inr, List, [], ◌∷◌, ◌++◌, ℕ, ◌+◌, ◌*◌, ◌-◌, ◌≤◌, ◌<◌, length, get_or, take, Float, arith}
 use Rattle.std.specs.Float.{Format, nan}
 use native.Mathlib.Nat.{eq-or-lt_of_le, mul-one}
 use lib.ListN.{length-append, get_or-append}

@@ -1,6 +1,6 @@
 -- A block of queries of a batch in stages, on either grid: query `from` and those after it, of n, of coordinates that stand axis after
 -- axis. What functions of the library promise each other; a caller has no use for it. Assumes nothing.
-use Rattle.std.specs.Prelude.{◌≡◌, Bool, true, false, List, [], ℕ, ◌+◌, ◌*◌, ◌≤◌, ◌<◌, length, get_or, set, Float}
+use Rattle.std.specs.Prelude.{◌≡◌, true, false, List, [], ℕ, ◌+◌, ◌*◌, ◌≤◌, ◌<◌, length, get_or, set, Float}
 use Rattle.std.specs.Float.{nan}
 use Rattle.shape.specs.Below.{any_below}
 use Rattle.evaluation.specs.Axes.{query}

@@ -11,7 +11,7 @@ mod strides;
 
 pub use axis::Axis;
 pub use block::block_size;
-pub use in_use::{used_floats, used_lens};
+pub use in_use::used_of;
 pub use map::{Map, Span, slope, weigh};
 pub use places::{put_parts, query};
 pub use stages::Spot;

@@ -1,6 +1,6 @@
 -- A single query on a regular map, axis after axis: one axis more, and the value on the last. For every format. Assumes nothing.
-use Rattle.std.proofs.Common.{◌≡◌, sym, ap, subst, ◌∙◌, true, List, [], ◌∷◌, ◌++◌, ℕ, suc, ◌+◌, ◌*◌, ◌-◌, ◌≤◌, ◌<◌, length, get_or, take, Float, arith}
-use Rattle.std.specs.Float.{Format, nan, binary64}
+use Rattle.std.proofs.Common.{◌≡◌, sym, true, List, [], ◌∷◌, ◌++◌, ℕ, ◌+◌, ◌*◌, ◌≤◌, length, get_or, take, Float, arith}
+use Rattle.std.specs.Float.{Format, nan}
 use lib.Arith.{lt_of_le-ne}
 use Rattle.shape.specs.Checks.{most_points}
 use Rattle.shape.specs.Shape.{size}

@@ -1,6 +1,6 @@
 -- A single query on a regular map, axis after axis (evaluation/specs/One_query.antt). What functions of the library promise each
 -- other; a caller has no use for it. Assumes nothing.
-use Rattle.std.specs.Prelude.{◌≡◌, true, false, List, ℕ, ◌≤◌, ◌<◌, length, take, Float}
+use Rattle.std.specs.Prelude.{◌≡◌, List, ℕ, ◌≤◌, ◌<◌, length, take, Float}
 use Rattle.std.specs.Float.{Format}
 use Rattle.shape.specs.Shape.{size}
 use Rattle.evaluation.specs.Axes.{query}

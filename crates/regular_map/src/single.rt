@@ -1,4 +1,4 @@
-// A single query on a regular map: a value axis after axis, its place and its weights, and then the sum; a gradient as a block of one.
+// A single query on a regular map: a value axis after axis, its place and its weights, and then the sum.
 ghost use Rattle.std.specs.Prelude.{◌≡◌, [], ◌∷◌, ◌≤◌, length, take};
 ghost use Rattle.multibspline.specs.Numbers.{f0};
 ghost use Rattle.std.specs.Float.{binary64};
@@ -10,8 +10,7 @@ ghost use Rattle.regular_blocks.specs.Checks.{regular};
 ghost use Rattle.regular_blocks.specs.Records.{map_of};
 ghost use Rattle.regular_map.specs.OneQuery.{LookedAt};
 
-use crate::blocks::no_seat;
-use block_sums::{single_gradient, value};
+use block_sums::value;
 use evaluation::{Axis, Map};
 use regular_blocks::Grid;
 use shape::Refusal;
@@ -110,13 +109,4 @@ pub fn value_at(grid: Grid, coeffs: &[f64], x: &[f64]) -> Result<f64, Refusal>
         return Ok(value(1, &strides, coeffs, &rows, origin));
     }
     from_axis_1(grid, coeffs, x, w0, origin * strides[0])
-}
-
-// The gradient at a query, or that it has no representable cell.
-pub fn gradient_at(grid: Grid, coeffs: &[f64], x: &[f64]) -> Result<[f64; 4], Refusal>
-    requires { (length coeffs.now ≡ size (take grid.count grid.dims)) × (grid.count ≤ length x.now) }
-    ensures { GradientAnswered (regular binary64 (map_of grid) coeffs.now) (query grid.count x.now 1 0) (answer_number result) (answer_or zeros result) }
-{
-    let mut places = [no_seat(); 1];
-    single_gradient(&grid, coeffs, x, &mut places)
 }

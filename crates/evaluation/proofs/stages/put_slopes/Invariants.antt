@@ -1,4 +1,4 @@
-use Rattle.std.proofs.Common.{◌≡◌, ℕ, ◌≤◌, ◌<◌, length, get_or}
+use Rattle.std.proofs.Common.{◌≡◌, ℕ, ◌≤◌, ◌<◌, get_or}
 use Rattle.std.specs.Float.{nan}
 use Rattle.evaluation.specs.Stages.{no_spot, Slopes}
 use Rattle.evaluation.proofs.stages.put_slopes.Given as goal

@@ -1,6 +1,6 @@
-use Rattle.std.proofs.Common.{◌≡◌, [], ◌∷◌, refl, arith}
+use Rattle.std.proofs.Common.{◌≡◌, [], refl, arith}
 use Rattle.std.specs.Float.{binary64}
-use Rattle.regular_map.proofs.OneQuery.{looked-refused, looked-small, looked-on, last-summable, last-value}
+use Rattle.regular_map.proofs.OneQuery.{looked-refused, last-summable, last-value}
 use Rattle.regular_map.proofs.single.from_axis_3.Goals as goal
 
 pub returns-in-None : goal.returns-in-None

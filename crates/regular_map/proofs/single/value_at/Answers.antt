@@ -1,4 +1,4 @@
-use Rattle.std.proofs.Common.{◌≡◌, [], ◌∷◌, ◌+◌, ◌*◌, get_or, refl, arith}
+use Rattle.std.proofs.Common.{◌≡◌, [], ◌∷◌, refl, arith}
 use Rattle.std.specs.Float.{binary64}
 use Rattle.regular_map.proofs.OneQuery.{looked-start, looked-refused, looked-small, looked-on, last-summable, last-value}
 use Rattle.regular_map.proofs.single.value_at.Goals as goal
