@@ -22,7 +22,7 @@ use Rattle.regular_map.specs.Total.{Representable}
 use Rattle.regular_map.proofs.Total.{steps-test, representable}
 use Rattle.rectilinear_blocks.proofs.Figures.{answers-all}
 use Rattle.rectilinear_map.specs.Total.{map_conditions, HasPlace}
-use Rattle.rectilinear_map.proofs.Checks.{map-numbered}
+use Rattle.rectilinear_map.specs.Laws.{numbered}
 use Rattle.rectilinear_map.proofs.Total.{map-tests, map-total}
 use Rattle.capi_parts.specs.Inputs.{lens_of, four_from}
 use Rattle.capi_parts.specs.Regular.{steps_of, regular_map, regular_checks, regular_spline}
@@ -90,6 +90,6 @@ rectilinear-total dims grid = record {
   check = λ coefs. map-total (length dims) (lens_of dims) grid coefs (four-lens dims);
   spline = λ f linear coefs.
       spline-total (rectilinear_spline f dims grid linear coefs) (map_conditions (length dims) (lens_of dims) grid (length coefs)) HasPlace
-      (map-tests (length dims) (lens_of dims) grid (length coefs) (four-lens dims)) (map-numbered (length dims) (lens_of dims) grid (length coefs)) (λ x. ((λ _. tt), (λ _. answers-all f _ grid x)));
+      (map-tests (length dims) (lens_of dims) grid (length coefs) (four-lens dims)) (numbered (length dims) (lens_of dims) grid (length coefs)) (λ x. ((λ _. tt), (λ _. answers-all f _ grid x)));
   steps = Steps.rectilinear-total (length dims) (lens_of dims) grid (four-lens dims);
 }

@@ -13,7 +13,7 @@ mod strides;
 pub use axis::Axis;
 pub use block::block_size;
 pub use figures::Figures;
-pub use in_use::{used_floats, used_lens};
+pub use in_use::used_of;
 pub use map::{Map, Span, look};
 pub use places::{put_parts, query};
 pub use stages::{SlopeTable, Spot, WeightTable, put_rows};

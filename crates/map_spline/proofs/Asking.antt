@@ -15,12 +15,12 @@ use Rattle.evaluation.proofs.Total.{one-accepted}
 use Rattle.regular_blocks.specs.Map.{RegularMap}
 use Rattle.regular_blocks.specs.Checks.{regular}
 use Rattle.regular_map.specs.Place.{record_checks}
-use Rattle.regular_map.proofs.Steps as Regular
+use Rattle.regular_map.specs.Laws as Regular
 use Rattle.regular_map.proofs.Placing.{map-record}
 use Rattle.rectilinear_blocks.specs.Map.{RectilinearMap}
 use Rattle.rectilinear_blocks.specs.Eval.{rectilinear}
 use Rattle.rectilinear_map.specs.Place.{grid_checks}
-use Rattle.rectilinear_map.proofs.Checks as Rectilinear
+use Rattle.rectilinear_map.specs.Laws as Rectilinear
 use Rattle.rectilinear_map.proofs.Placing.{map-grid}
 use Rattle.map_spline.specs.Surface.{Surface, asked_number, asked_gradient, asked_outside, Answered}
 use Rattle.map_spline.specs.declared.replies.Reply.{Reply}
@@ -50,11 +50,11 @@ refused-outside s x refusal e = ap (λ (t : Bool). t && s.outside x) (sym (ne_eq
 pub regular-asked : (m : RegularMap) (coefs x : List Float) (value : Float) → OneValue (regular binary64 m coefs) x 0 value
     → (first_refusal (record_checks m.count m.lens m.steps) ≡ 0) × (length x ≡ m.count)
 regular-asked m coefs x value h =
-    let w = one-accepted (regular binary64 m coefs) (Regular.map-numbered m.count m.lens m.steps (length coefs)) x (sym h.answers) in
+    let w = one-accepted (regular binary64 m coefs) (Regular.numbered m.count m.lens m.steps (length coefs)) x (sym h.answers) in
     (map-record m.count m.lens m.steps (length coefs) w.0, w.1)
 
 pub rectilinear-asked : (m : RectilinearMap) (grid coefs x : List Float) (value : Float) → OneValue (rectilinear binary64 m grid coefs) x 0 value
     → (first_refusal (grid_checks m.count m.lens grid) ≡ 0) × (length x ≡ m.count)
 rectilinear-asked m grid coefs x value h =
-    let w = one-accepted (rectilinear binary64 m grid coefs) (Rectilinear.map-numbered m.count m.lens grid (length coefs)) x (sym h.answers) in
+    let w = one-accepted (rectilinear binary64 m grid coefs) (Rectilinear.numbered m.count m.lens grid (length coefs)) x (sym h.answers) in
     (map-grid m.count m.lens grid (length coefs) w.0, w.1)

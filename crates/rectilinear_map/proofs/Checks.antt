@@ -8,7 +8,7 @@ use borrow.Author.Tests.{not-false}
 use lib.ListN.{length, take}
 use lib.Ieee.{Float}
 use Rattle.shape.specs.Shape.{size}
-use Rattle.shape.specs.Checks.{first_refusal, shape_checks, length_check, Positive}
+use Rattle.shape.specs.Checks.{first_refusal, shape_checks, length_check}
 use Rattle.shape.specs.Refusal.{refusal_number}
 use Rattle.shape.specs.declared.answers.Refusal.{Refusal}
 use Rattle.shape.proofs.Accepted.{refusal-append, accepted-append, prefix-passed, usable, axes-are}
@@ -17,7 +17,7 @@ use Rattle.knots.specs.Joined.{total, all_rise}
 use Rattle.knots.specs.Checks.{grid_check, knots_check}
 use Rattle.rectilinear.specs.Fit.{rectilinear_fit_checks}
 use Rattle.rectilinear.proofs.Total.{fit-accepted, accepted-rise}
-use Rattle.rectilinear_blocks.specs.Eval.{grid_answer, map_checks, map_answer}
+use Rattle.rectilinear_blocks.specs.Eval.{grid_answer, map_answer}
 use Rattle.rectilinear_blocks.specs.Sound.{Gridded, Sound}
 
 -- ---- from a grid alone
@@ -32,28 +32,31 @@ module _ (count : ℕ) (lens : List ℕ) (grid : List Float) where
     unfolding grid_answer
     grid-length h = length-fails [] (total (take count lens)) (length grid) h ∙ sym (accepted-append count lens ok (grid_check (take count lens) grid))
 
-    pub grid-passed : length grid ≡ total (take count lens) → ◌≡◌ {A = ℕ} 0 (grid_answer count lens grid)
+    pub grid-passed : length grid ≡ total (take count lens) → grid_answer count lens grid ≡ 0
     unfolding grid_answer first_refusal
-    grid-passed h = sym (accepted-append count lens ok (grid_check (take count lens) grid) ∙ length-passes [] (total (take count lens)) (length grid) h)
+    grid-passed h = accepted-append count lens ok (grid_check (take count lens) grid) ∙ length-passes [] (total (take count lens)) (length grid) h
+
+  module _ (e : grid_answer count lens grid ≡ 0) where
+    pub shape-passed : first_refusal (shape_checks count lens) ≡ 0
+    unfolding grid_answer
+    shape-passed = prefix-passed (shape_checks count lens) (grid_check (take count lens) grid) e
+
+    pub grid-joined : length grid ≡ total (take count lens)
+    unfolding grid_answer
+    grid-joined = (length-passed [] (total (take count lens)) (length grid) (sym (accepted-append count lens shape-passed (grid_check (take count lens) grid)) ∙ e)).0
 
 -- ---- a map
 
-pub map-numbered : (count : ℕ) (lens : List ℕ) (grid : List Float) (coefs : ℕ) → Positive (map_checks count lens grid coefs)
-map-numbered count lens grid coefs = (omega arith, (omega arith, (omega arith, (omega arith, (omega arith, (omega arith, tt))))))
-
 module _ (count : ℕ) (lens : List ℕ) (grid : List Float) (coefs : ℕ) where
-  pub map-shape : (r : Refusal) → refusal_number r ≡ first_refusal (shape_checks count lens) → refusal_number r ≡ map_answer count lens grid coefs
-  unfolding map_answer
-  map-shape r e = refusal-append r (shape_checks count lens) _ e
+  pub map-grid : (r : Refusal) → refusal_number r ≡ grid_answer count lens grid → refusal_number r ≡ map_answer count lens grid coefs
+  unfolding grid_answer map_answer
+  map-grid r e = refusal-append r (shape_checks count lens ++ grid_check (take count lens) grid) (length_check (size (take count lens)) coefs ++ knots_check (take count lens) grid) e
 
   -- once the shape has passed
   module _ (ok : first_refusal (shape_checks count lens) ≡ 0) where
     after-shape : map_answer count lens grid coefs ≡ first_refusal (grid_check (take count lens) grid ++ (length_check (size (take count lens)) coefs ++ knots_check (take count lens) grid))
     unfolding map_answer
     after-shape = accepted-append count lens ok (grid_check (take count lens) grid ++ (length_check (size (take count lens)) coefs ++ knots_check (take count lens) grid))
-
-    pub map-grid : (length grid ≡ total (take count lens) → ⊥) → ◌≡◌ {A = ℕ} 2 (map_answer count lens grid coefs)
-    map-grid h = length-fails _ (total (take count lens)) (length grid) h ∙ sym after-shape
 
     module _ (joined : length grid ≡ total (take count lens)) where
       after-grid : map_answer count lens grid coefs ≡ first_refusal (length_check (size (take count lens)) coefs ++ knots_check (take count lens) grid)
@@ -72,9 +75,9 @@ module _ (count : ℕ) (lens : List ℕ) (grid : List Float) (coefs : ℕ) where
         pub map-falls : all_rise grid (take count lens) count ≡ false → ◌≡◌ {A = ℕ} 5 (map_answer count lens grid coefs)
         map-falls e = check-fails [] 5 (not (all_rise grid (take count lens) (length (take count lens)))) (rw (axes, e)) ∙ sym after-coefs
 
-        pub map-passed : all_rise grid (take count lens) count ≡ true → ◌≡◌ {A = ℕ} 0 (map_answer count lens grid coefs)
+        pub map-passed : all_rise grid (take count lens) count ≡ true → map_answer count lens grid coefs ≡ 0
         unfolding first_refusal
-        map-passed e = sym (after-coefs ∙ check-passes [] 5 (not (all_rise grid (take count lens) (length (take count lens)))) (rw (axes, e)))
+        map-passed e = after-coefs ∙ check-passes [] 5 (not (all_rise grid (take count lens) (length (take count lens)))) (rw (axes, e))
 
   -- an accepted map
   pub map-sound : length lens ≡ 4 → map_answer count lens grid coefs ≡ 0 → Sound count lens grid coefs

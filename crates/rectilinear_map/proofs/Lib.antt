@@ -2,5 +2,4 @@ pub mod Checks
 pub mod Placing
 pub mod Total
 pub mod InUse
-pub mod Grids
 pub mod OwnGhosts

@@ -1,21 +1,20 @@
 -- The map that a joined grid makes, with the ghost numbers that its knots give: an axis looks at its own, and it is the map that
 -- building makes. For every format. Assumes nothing.
-use mathlib.Core.Path.{◌≡◌, refl, sym, ◌∙◌, subst}
+use mathlib.Core.Path.{◌≡◌, refl, sym, subst}
 use mathlib.Core.Bool.{Bool}
 use mathlib.Core.List.{List, []}
-use Prim.Native.Nat.{ℕ, zero, suc, ◌+◌, ◌*◌, ◌≤◌, ◌<◌}
+use Prim.Native.Nat.{ℕ, zero, suc, ◌<◌}
 use native.Mathlib.Omega.{arith}
 use lib.ListN.{length, get_or, take, get_or-eq_default}
-use lib.Ieee.{Float, nan, Format}
+use lib.Ieee.{Float, Format}
 use borrow.Author.Tests.{lt-ltb}
 use Rattle.knots.specs.Joined.{knots_of}
 use Rattle.rectilinear_weights.specs.Ghosts.{low_ghost_coeffs, high_ghost_coeffs}
-use Rattle.evaluation.specs.Axes.{in_use, query}
+use Rattle.evaluation.specs.Axes.{in_use}
 use Rattle.evaluation.specs.Axis.{AxisOf}
 use Rattle.evaluation.specs.Spline.{Spline, OneValue}
 use Rattle.evaluation.proofs.Entries.{axis-at}
 use Rattle.rectilinear_axis.specs.Axis.{rectilinear_axis}
-use Rattle.rectilinear_blocks.specs.Map.{RectilinearMap}
 use Rattle.rectilinear_blocks.specs.Eval.{rectilinear_axes, rectilinear}
 use Rattle.rectilinear_blocks.specs.Sound.{Gridded}
 use Rattle.rectilinear_blocks.proofs.Room.{axis-of}

@@ -14,7 +14,7 @@ use Rattle.evaluation.proofs.Placing.{axis-test}
 use Rattle.rectilinear_blocks.specs.Eval.{grid_answer, map_checks, map_answer, rectilinear}
 use Rattle.rectilinear_blocks.proofs.Figures.{answers-all}
 use Rattle.rectilinear_map.specs.Total.{map_conditions, HasPlace, GridTotal, MapTotal, RectilinearTotal, PlaceTotal}
-use Rattle.rectilinear_map.proofs.Checks.{map-numbered}
+use Rattle.rectilinear_map.specs.Laws.{numbered}
 
 pub map-tests : (count : ℕ) (lens : List ℕ) (grid : List Float) (coefs : ℕ) → length lens ≡ 4 → Tests (map_checks count lens grid coefs) (map_conditions count lens grid coefs)
 map-tests count lens grid coefs four =
@@ -42,4 +42,4 @@ place-total count lens grid a four =
 pub rectilinear-total : RectilinearTotal
 rectilinear-total f m grid coefs four =
     evaluation-total (rectilinear f m grid coefs) (map_conditions m.count m.lens grid (length coefs)) HasPlace
-    (map-tests m.count m.lens grid (length coefs) four) (map-numbered m.count m.lens grid (length coefs)) (λ x. ((λ _. tt), (λ _. answers-all f m grid x)))
+    (map-tests m.count m.lens grid (length coefs) four) (numbered m.count m.lens grid (length coefs)) (λ x. ((λ _. tt), (λ _. answers-all f m grid x)))

@@ -3,3 +3,4 @@ pub mod Place
 pub mod Total
 pub mod Records
 pub mod InUse
+pub mod Laws

@@ -1,6 +1,6 @@
 -- The code's records, as the definitions see them: the only definitions here that are tied to a width. Assumes nothing.
 use Rattle.std.specs.Prelude.{Bool, Result, List, ℕ, length, Float}
-use Rattle.std.specs.Float.{Format, binary64}
+use Rattle.std.specs.Float.{Format}
 use Rattle.shape.specs.Checks.{first_refusal}
 use Rattle.shape.specs.declared.answers.Refusal.{Refusal}
 use Rattle.evaluation.specs.Built.{BuiltFrom}

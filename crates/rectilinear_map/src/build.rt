@@ -1,101 +1,51 @@
 // Building a rectilinear map, and the checks of a record with its joined grid.
-ghost use Rattle.std.specs.Prelude.{◌≡◌, cond, [], ◌∷◌, ◌<◌, ltb, length, take};
+ghost use Rattle.std.specs.Prelude.{◌≡◌, length, take};
 ghost use Rattle.std.specs.Float.{binary64};
+ghost use Rattle.shape.specs.Axes.{AxesOnce};
 ghost use Rattle.shape.specs.Refusal.{answer_number, refusal_number};
-ghost use Rattle.shape.specs.Usable.{Usable};
-ghost use Rattle.knots.specs.Joined.{knots_of, total};
-ghost use Rattle.rectilinear_weights.specs.Ghosts.{low_ghost_coeffs, high_ghost_coeffs};
-ghost use Rattle.rectilinear_weights.specs.Records.{ghost_numbers};
+ghost use Rattle.knots.specs.Joined.{total};
 ghost use Rattle.rectilinear.specs.Fit.{RectilinearFitted};
-ghost use Rattle.rectilinear_blocks.specs.Ghosts.{ghosts};
-ghost use Rattle.rectilinear_map.specs.Map.{no_ghost, low_ghosts, high_ghosts, made, blank};
+ghost use Rattle.rectilinear_map.specs.Map.{made, blank};
 ghost use Rattle.rectilinear_map.specs.Records.{map_of, BuiltAs, BuiltByFit};
 ghost use Rattle.rectilinear_blocks.specs.Eval.{grid_answer, map_answer};
 
+use crate::ends::{High, Low, ghosts_of, no_ghosts};
 use crate::record::MultiBsplineRectilinear;
-use evaluation::{points_by_stride, used_lens};
-use knots::{all_rise, axis_knots, grid_len};
-use rectilinear_weights::{Ghost, high_ghost_coeffs, low_ghost_coeffs};
-use shape::{Refusal, Shape};
+use evaluation::{points_by_stride, used_of};
+use knots::{all_rise, grid_len};
+use shape::{Axes, Refusal, Shape};
 
-// The checks of a record and its grid: the shape, the length of the joined grid, that of the coefficients, the knots.
+// The shape, then the length of the joined grid. The axes, where both pass.
+fn joined(shape: Shape, grid: &[f64]) -> Result<Axes, Refusal>
+    ensures { AxesOnce (grid_answer shape.count shape.dims grid.now) shape.count shape.dims result }
+{
+    let axes = shape.axes()?;
+    if grid.len() != grid_len(axes.count, axes.dims) {
+        return Err(Refusal::DimensionMismatch);
+    }
+    Ok(axes)
+}
+
+// The checks of a record and its grid: the shape and the grid's length, the length of the coefficients, the knots. The axes, where
+// they pass.
+pub fn looked_at(shape: Shape, grid: &[f64], coeffs: usize) -> Result<Axes, Refusal>
+    ensures { AxesOnce (map_answer shape.count shape.dims grid.now coeffs) shape.count shape.dims result }
+{
+    let axes = joined(shape, grid)?;
+    if coeffs != points_by_stride(axes) {
+        return Err(Refusal::DimensionMismatch);
+    }
+    if !all_rise(grid, axes.count, axes.dims) {
+        return Err(Refusal::NotIncreasing);
+    }
+    Ok(axes)
+}
+
 pub fn check_map(count: usize, dims: [usize; 4], grid: &[f64], coeffs: usize) -> Result<(), Refusal>
     ensures { answer_number result ≡ map_answer count dims grid.now coeffs }
 {
-    let shape = Shape { count, dims };
-    shape.check()?;
-    if grid.len() != grid_len(count, dims) {
-        return Err(Refusal::DimensionMismatch);
-    }
-    if coeffs != points_by_stride(count, dims) {
-        return Err(Refusal::DimensionMismatch);
-    }
-    if !all_rise(grid, count, dims) {
-        return Err(Refusal::NotIncreasing);
-    }
+    looked_at(Shape { count, dims }, grid, coeffs)?;
     Ok(())
-}
-
-fn no_ghost() -> Ghost
-    ensures { ghost_numbers result ≡ no_ghost }
-{
-    Ghost {
-        p0: 0.0,
-        p1: 0.0,
-        p2: 0.0,
-    }
-}
-
-pub fn no_ghosts() -> [Ghost; 4]
-    ensures { ghosts result ≡ no_ghost ∷ no_ghost ∷ no_ghost ∷ no_ghost ∷ [] }
-{
-    [no_ghost(), no_ghost(), no_ghost(), no_ghost()]
-}
-
-// The ghost numbers of the low end of axis a, or zeros where it is not in use.
-fn low_on(count: usize, dims: [usize; 4], grid: &[f64], a: usize) -> Ghost
-    requires { Usable count dims × (length grid.now ≡ total (take count dims)) × (a < 4) }
-    ensures { ghost_numbers result ≡ cond (ltb a count) (low_ghost_coeffs binary64 (knots_of grid.now (take count dims) a)) no_ghost }
-{
-    if count <= a {
-        return no_ghost();
-    }
-    low_ghost_coeffs(axis_knots(grid, count, dims, a))
-}
-
-// Those of the high end.
-fn high_on(count: usize, dims: [usize; 4], grid: &[f64], a: usize) -> Ghost
-    requires { Usable count dims × (length grid.now ≡ total (take count dims)) × (a < 4) }
-    ensures { ghost_numbers result ≡ cond (ltb a count) (high_ghost_coeffs binary64 (knots_of grid.now (take count dims) a)) no_ghost }
-{
-    if count <= a {
-        return no_ghost();
-    }
-    high_ghost_coeffs(axis_knots(grid, count, dims, a))
-}
-
-fn low_ghosts(count: usize, dims: [usize; 4], grid: &[f64]) -> [Ghost; 4]
-    requires { Usable count dims × (length grid.now ≡ total (take count dims)) }
-    ensures { ghosts result ≡ low_ghosts binary64 count dims grid.now }
-{
-    [
-        low_on(count, dims, grid, 0),
-        low_on(count, dims, grid, 1),
-        low_on(count, dims, grid, 2),
-        low_on(count, dims, grid, 3),
-    ]
-}
-
-fn high_ghosts(count: usize, dims: [usize; 4], grid: &[f64]) -> [Ghost; 4]
-    requires { Usable count dims × (length grid.now ≡ total (take count dims)) }
-    ensures { ghosts result ≡ high_ghosts binary64 count dims grid.now }
-{
-    [
-        high_on(count, dims, grid, 0),
-        high_on(count, dims, grid, 1),
-        high_on(count, dims, grid, 2),
-        high_on(count, dims, grid, 3),
-    ]
 }
 
 // Nothing but zeros.
@@ -115,62 +65,51 @@ pub fn blank() -> MultiBsplineRectilinear
 }
 
 // An accepted map: entries of axes not in use are zero.
-fn accepted(count: usize, dims: [usize; 4], grid: &[f64], linear: bool) -> MultiBsplineRectilinear
-    requires { Usable count dims × (length grid.now ≡ total (take count dims)) }
-    ensures { map_of result ≡ made binary64 count dims grid.now linear }
+fn accepted(axes: Axes, grid: &[f64], linear: bool) -> MultiBsplineRectilinear
+    requires { length grid.now ≡ total (take axes.count axes.dims) }
+    ensures { map_of result ≡ made binary64 axes.count axes.dims grid.now linear }
 {
     MultiBsplineRectilinear {
-        count,
-        dims: used_lens(count, dims),
-        low_ghost_coeffs: low_ghosts(count, dims, grid),
-        high_ghost_coeffs: high_ghosts(count, dims, grid),
+        count: axes.count,
+        dims: used_of(axes.count, axes.dims, 0),
+        low_ghost_coeffs: ghosts_of::<Low>(axes, grid),
+        high_ghost_coeffs: ghosts_of::<High>(axes, grid),
         linearize_extrapolation: linear,
     }
 }
 
 pub fn build(
-    count: usize,
-    dims: [usize; 4],
+    shape: Shape,
     grid: &[f64],
     linear: bool,
     coeffs: usize,
 ) -> Result<MultiBsplineRectilinear, Refusal>
-    ensures { BuiltAs binary64 (map_answer count dims grid.now coeffs) count dims grid.now linear result }
+    ensures { BuiltAs binary64 (map_answer shape.count shape.dims grid.now coeffs) shape.count shape.dims grid.now linear result }
 {
-    check_map(count, dims, grid, coeffs)?;
-    Ok(accepted(count, dims, grid, linear))
+    let axes = looked_at(shape, grid, coeffs)?;
+    Ok(accepted(axes, grid, linear))
 }
 
 // From the grid alone; the knots are left to the calls that evaluate the map.
-pub fn of_grid(
-    count: usize,
-    dims: [usize; 4],
-    grid: &[f64],
-    linear: bool,
-) -> Result<MultiBsplineRectilinear, Refusal>
-    ensures { BuiltAs binary64 (grid_answer count dims grid.now) count dims grid.now linear result }
+pub fn of_grid(shape: Shape, grid: &[f64], linear: bool) -> Result<MultiBsplineRectilinear, Refusal>
+    ensures { BuiltAs binary64 (grid_answer shape.count shape.dims grid.now) shape.count shape.dims grid.now linear result }
 {
-    let shape = Shape { count, dims };
-    shape.check()?;
-    if grid.len() != grid_len(count, dims) {
-        return Err(Refusal::DimensionMismatch);
-    }
-    Ok(accepted(count, dims, grid, linear))
+    let axes = joined(shape, grid)?;
+    Ok(accepted(axes, grid, linear))
 }
 
 pub fn from_values(
-    count: usize,
-    dims: [usize; 4],
+    shape: Shape,
     grid: &[f64],
     linear: bool,
     vals: &[f64],
     coeffs: &mut [f64],
     scratch: &mut [f64],
 ) -> Result<MultiBsplineRectilinear, Refusal>
-    ensures built_by_fit { BuiltByFit binary64 count dims grid.now linear vals.now coeffs.old scratch.old result }
-    ensures rectilinear_fitted { RectilinearFitted binary64 count dims grid.now vals.now coeffs.old scratch.old (answer_number result) coeffs.new scratch.new }
+    ensures built_by_fit { BuiltByFit binary64 shape.count shape.dims grid.now linear vals.now coeffs.old scratch.old result }
+    ensures rectilinear_fitted { RectilinearFitted binary64 shape.count shape.dims grid.now vals.now coeffs.old scratch.old (answer_number result) coeffs.new scratch.new }
 {
-    let shape = Shape { count, dims };
+    let Shape { count, dims } = shape;
     rectilinear::coefficients(shape, grid, vals, coeffs, scratch)?;
-    Ok(accepted(count, dims, grid, linear))
+    Ok(accepted(Axes { count, dims }, grid, linear))
 }

@@ -2,16 +2,14 @@
 // interpn's multibspline::rectilinear.
 #![tactic(auto)]
 
-mod batch;
-mod blocks;
 mod build;
-mod eval;
-mod grid;
+mod ends;
+mod lent;
 mod of_grid;
 mod place;
 mod record;
-mod single;
 
-pub use build::{blank, check_map, no_ghosts};
+pub use build::{blank, check_map};
+pub use ends::no_ghosts;
 pub use record::MultiBsplineRectilinear;
 pub use rectilinear_weights::Ghost;

@@ -2,31 +2,28 @@
 // axis are worked out only where the query lies at an end of it, and only those of that end.
 ghost use denote.Builtin.{usize};
 ghost use Rattle.std.specs.Mem.{type_size};
-ghost use Rattle.std.specs.Prelude.{◌≡◌, ◌*◌, ◌<◌, ◌^◌, true, ◌≤◌, length, take};
-ghost use Rattle.multibspline.specs.Numbers.{f0};
+ghost use Rattle.std.specs.Prelude.{◌≡◌, ◌*◌, ◌<◌, ◌^◌, true, ◌≤◌, length};
 ghost use Rattle.std.specs.Float.{binary64};
-ghost use Rattle.shape.specs.Refusal.{answer_number, answer_or};
-ghost use Rattle.shape.specs.Shape.{size};
 ghost use Rattle.knots.specs.Knots.{rises, count_below};
 ghost use Rattle.rectilinear_weights.specs.Ghosts.{low_ghost_coeffs, high_ghost_coeffs};
 ghost use Rattle.evaluation.specs.Granted.{Ready};
-ghost use Rattle.evaluation.specs.Spline.{OneValue};
 ghost use Rattle.rectilinear_axis.specs.Axis.{place_weights, rectilinear_axis};
-ghost use Rattle.rectilinear_blocks.specs.Eval.{rectilinear_axes, rectilinear};
+ghost use Rattle.rectilinear_blocks.specs.Eval.{map_checks, rectilinear_axes};
 ghost use Rattle.rectilinear_blocks.specs.Sound.{Gridded};
-ghost use Rattle.rectilinear_map.specs.Map.{of_grid, made};
+ghost use Rattle.rectilinear_map.specs.Laws.{numbered};
+ghost use Rattle.rectilinear_map.specs.Map.{of_grid};
 
-use crate::build::check_map;
-use block_sums::single_value;
+use crate::build::looked_at;
 use evaluation::{Axis, Map, strides_of};
 use knots::{axis_knots, count_below, loc_of};
+use map_calls::Lent;
 use multibspline::Saturation;
 use rectilinear_basis::basis_span_weights;
 use rectilinear_weights::{
     high_boundary_weights, high_ghost_coeffs, interp_weight_derivatives, low_boundary_weights,
     low_ghost_coeffs,
 };
-use shape::Refusal;
+use shape::{Refusal, Shape};
 
 // The weights at x, with c knots below it. The ends are asked for by name: a second caller of `interp_weights`, or of
 // `inner_weights`, slows the batches by some percent.
@@ -50,7 +47,7 @@ fn own_weights(knots: &[f64], linear: bool, c: usize, x: f64) -> [f64; 4]
 
 // An axis by its knots alone.
 #[derive(Clone, Copy)]
-struct Knots<'a> {
+pub struct Knots<'a> {
     knots: &'a [f64],
     linear: bool,
     ghost four: { 4 ≤ length knots.now },
@@ -95,7 +92,7 @@ impl<'a> Axis for Knots<'a> {
 
 // A map by its joined grid alone.
 #[derive(Clone, Copy)]
-struct OfGrid<'a> {
+pub struct OfGrid<'a> {
     count: usize,
     dims: [usize; 4],
     strides: [usize; 4],
@@ -126,28 +123,32 @@ impl<'a> Map for OfGrid<'a> {
     }
 }
 
-// The value of a single query.
-pub fn value(
-    count: usize,
-    dims: [usize; 4],
-    grid: &[f64],
-    linear: bool,
-    coeffs: &[f64],
-    x: &[f64],
-) -> Result<f64, Refusal>
-    ensures { OneValue (rectilinear binary64 (made binary64 count dims grid.now linear) grid.now coeffs.now) x.now (answer_number result) (answer_or f0 result) }
-{
-    check_map(count, dims, grid, coeffs.len())?;
-    if x.len() != count {
-        return Err(Refusal::DimensionMismatch);
+// What a caller lends who has the grid and no record.
+#[derive(Clone, Copy)]
+pub struct ByGrid<'a> {
+    pub shape: Shape,
+    pub grid: &'a [f64],
+    pub linear: bool,
+}
+
+impl<'a> Lent for ByGrid<'a> {
+    type Accepted = OfGrid<'a>;
+
+    ghost view = { λ g. rectilinear_axes binary64 (of_grid binary64 g.shape.count g.shape.dims g.grid.now g.linear) g.grid.now };
+
+    ghost checks = { λ g coefs. map_checks g.shape.count g.shape.dims g.grid.now coefs };
+
+    fn accept(self, coeffs: usize) -> Result<OfGrid<'a>, Refusal> {
+        let Shape { count, dims } = self.shape;
+        let axes = looked_at(self.shape, self.grid, coeffs)?;
+        Ok(OfGrid {
+            count,
+            dims,
+            strides: strides_of(axes),
+            knots: self.grid,
+            linear: self.linear,
+        })
     }
-    let strides = strides_of(count, dims);
-    let map = OfGrid {
-        count: count,
-        dims: dims,
-        strides: strides,
-        knots: grid,
-        linear: linear,
-    };
-    single_value(&map, coeffs, x)
+
+    ghost positive = { λ g coefs. numbered g.shape.count g.shape.dims g.grid.now coefs };
 }

@@ -14,7 +14,9 @@ ghost use Rattle.rectilinear_map.specs.Records.{map_of, BuiltAs, BuiltByFit};
 ghost use Rattle.rectilinear_map.specs.Place.{RectilinearPlaced};
 ghost use Rattle.rectilinear_blocks.specs.Eval.{grid_answer, map_answer, rectilinear};
 
-use crate::{batch, build, eval, of_grid, place};
+use crate::lent::WithGrid;
+use crate::of_grid::ByGrid;
+use crate::{build, place};
 use knots::Loc;
 use rectilinear_weights::Ghost;
 use shape::{Refusal, Shape};
@@ -71,7 +73,7 @@ impl MultiBsplineRectilinear {
     pub fn interp_one(self, grid: &[f64], coeffs: &[f64], x: &[f64]) -> Result<f64, Refusal>
         ensures { OneValue (rectilinear binary64 (map_of self) grid.now coeffs.now) x.now (answer_number result) (answer_or f0 result) }
     {
-        eval::one(self, grid, coeffs, x)
+        map_calls::interp_one(WithGrid { map: self, grid }, coeffs, x)
     }
 
     // The gradient at a query, with the refusals of interp_one.
@@ -83,7 +85,7 @@ impl MultiBsplineRectilinear {
     ) -> Result<[f64; 4], Refusal>
         ensures { OneGradient (rectilinear binary64 (map_of self) grid.now coeffs.now) x.now (answer_number result) (answer_or zeros result) }
     {
-        eval::one_grad(self, grid, coeffs, x)
+        map_calls::interp_one_grad(WithGrid { map: self, grid }, coeffs, x)
     }
 
     // Values at a batch of queries, axis after axis: `out.len()` coordinates of axis 0, then those of axis 1, and so on. The
@@ -97,7 +99,7 @@ impl MultiBsplineRectilinear {
     ) -> Result<(), Refusal>
         ensures { ValueBatch (rectilinear binary64 (map_of self) grid.now coeffs.now) x.now out.old (answer_number result) out.new }
     {
-        batch::values(self, grid, coeffs, x, out)
+        map_calls::interp(WithGrid { map: self, grid }, coeffs, x, out)
     }
 
     // Gradients at a batch of queries, both axis after axis: of n entries, part k of entry i at k n + i. As `interp`; 2 also
@@ -111,7 +113,7 @@ impl MultiBsplineRectilinear {
     ) -> Result<(), Refusal>
         ensures { GradientBatch (rectilinear binary64 (map_of self) grid.now coeffs.now) x.now out.old (answer_number result) out.new }
     {
-        batch::gradients(self, grid, coeffs, x, out)
+        map_calls::interp_grad(WithGrid { map: self, grid }, coeffs, x, out)
     }
 
     // A map from its coefficients, or the first of these refusals: 1, 2, 3 for the shape; 2, the length of the joined grid;
@@ -124,14 +126,7 @@ impl MultiBsplineRectilinear {
     ) -> Result<MultiBsplineRectilinear, Refusal>
         ensures { BuiltAs binary64 (map_answer shape.count shape.dims grid.now (length coeffs.now)) shape.count shape.dims grid.now linearize_extrapolation result }
     {
-        let dims = shape.dims;
-        build::build(
-            shape.count,
-            dims,
-            grid,
-            linearize_extrapolation,
-            coeffs.len(),
-        )
+        build::build(shape, grid, linearize_extrapolation, coeffs.len())
     }
 
     // A map from its grid, for a caller that builds it anew for each call that evaluates it: that call looks at the knots
@@ -143,8 +138,7 @@ impl MultiBsplineRectilinear {
     ) -> Result<MultiBsplineRectilinear, Refusal>
         ensures { BuiltAs binary64 (grid_answer shape.count shape.dims grid.now) shape.count shape.dims grid.now linearize_extrapolation result }
     {
-        let dims = shape.dims;
-        build::of_grid(shape.count, dims, grid, linearize_extrapolation)
+        build::of_grid(shape, grid, linearize_extrapolation)
     }
 
     // The value at a query of the map that `new` builds, with the refusals of interp_one, for a caller that has no map: the ghost
@@ -158,8 +152,12 @@ impl MultiBsplineRectilinear {
     ) -> Result<f64, Refusal>
         ensures { OneValue (rectilinear binary64 (made binary64 shape.count shape.dims grid.now linear) grid.now coeffs.now) x.now (answer_number result) (answer_or f0 result) }
     {
-        let dims = shape.dims;
-        of_grid::value(shape.count, dims, grid, linear, coeffs, x)
+        let by_grid = ByGrid {
+            shape,
+            grid,
+            linear,
+        };
+        map_calls::interp_one(by_grid, coeffs, x)
     }
 
     // Fits the values, then builds the map. The refusals of the fit, with `coeffs` and `scratch` untouched; a map whose fit
@@ -175,15 +173,6 @@ impl MultiBsplineRectilinear {
         ensures built_by_fit { BuiltByFit binary64 shape.count shape.dims grid.now linearize_extrapolation vals.now coeffs.old scratch.old result }
         ensures rectilinear_fitted { RectilinearFitted binary64 shape.count shape.dims grid.now vals.now coeffs.old scratch.old (answer_number result) coeffs.new scratch.new }
     {
-        let dims = shape.dims;
-        build::from_values(
-            shape.count,
-            dims,
-            grid,
-            linearize_extrapolation,
-            vals,
-            coeffs,
-            scratch,
-        )
+        build::from_values(shape, grid, linearize_extrapolation, vals, coeffs, scratch)
     }
 }

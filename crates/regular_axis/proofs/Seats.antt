@@ -1,9 +1,9 @@
 -- A place that was found, and the weights in an inner span. For every format. Assumes nothing.
-use Rattle.std.proofs.Common.{◌≡◌, ◌∙◌, sym, ap, Bool, Some, ℕ, ◌+◌, ◌≤◌, ◌<◌, arith, Float}
+use Rattle.std.proofs.Common.{◌≡◌, ◌∙◌, sym, ap, Bool, Some, ℕ, ◌+◌, ◌≤◌, ◌<◌, Float}
 use Rattle.std.specs.Float.{Format}
 use Rattle.multibspline.specs.declared.saturation.Saturation.{Saturation}
 use Rattle.multibspline.specs.declared.saturation.Saturation.TheVariants.{None}
-use Rattle.regular_weights.specs.Place.{get_loc, past_origin}
+use Rattle.regular_weights.specs.Place.{get_loc}
 use Rattle.regular_weights.specs.Weights.{cubic_bspline_weights, interp_weights}
 use Rattle.regular_weights.specs.declared.place.Loc.{Loc}
 use Rattle.regular_weights.proofs.Cells.{origin-room}

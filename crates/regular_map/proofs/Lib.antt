@@ -3,5 +3,4 @@ pub mod Placing
 pub mod Builds
 pub mod Total
 pub mod InUse
-pub mod Grids
 pub mod OneQuery

@@ -2,16 +2,15 @@
 use mathlib.Core.Path.{◌≡◌, refl, sym, ap, ◌∙◌}
 use mathlib.Core.Bool.{Bool, true, false, cond, not, ◌||◌}
 use mathlib.Core.List.{List, [], ◌∷◌, ◌++◌}
-use Prim.Native.Nat.{ℕ, ◌+◌, ◌≤◌, ◌<◌}
-use native.Mathlib.Numerals.{add-one}
+use Prim.Native.Nat.{ℕ}
 use native.Mathlib.Omega.{arith}
 use lib.Dec.{eqb}
-use lib.ListN.{length, take, drop, get_or, drop_of_length-le}
-use lib.Seq.{slice-cons, length-take-le}
-use lib.Ieee.{Float, nan, lt}
+use lib.ListN.{length, take}
+use lib.Ieee.{Float, lt}
+use Rattle.std.specs.List.{list_any}
 use borrow.Author.Tests.{eq-eqb, ne_eqb, eqb-true}
 use Rattle.shape.specs.Shape.{size}
-use Rattle.shape.specs.Checks.{refuse, first_refusal, shape_checks, length_check, Positive}
+use Rattle.shape.specs.Checks.{refuse, first_refusal, shape_checks, length_check}
 use Rattle.shape.specs.Refusal.{refusal_number}
 use Rattle.shape.specs.Usable.{Usable}
 use Rattle.shape.specs.declared.answers.Refusal.{Refusal}
@@ -19,15 +18,14 @@ use Rattle.shape.proofs.Accepted.{refusal-append, accepted-append, prefix-passed
 use Rattle.multibspline.specs.Numbers.{f0}
 use Rattle.regular_blocks.specs.Checks.{any_step_bad, map_checks, map_answer}
 
--- the steps from i on, of the first k: one more, and none
-module _ (steps : List Float) (k i : ℕ) (h : k ≤ length steps) where
-  pub bad-cons : i < k → any_step_bad (drop i (take k steps)) ≡ (not (lt f0 (get_or steps i nan)) || any_step_bad (drop (i + 1) (take k steps)))
-  unfolding any_step_bad
-  bad-cons g = ap any_step_bad (slice-cons i k steps nan g h) ∙ rw add-one
+-- a step that is not above zero, and one of these is
+abbrev pub bad : Float → Bool
+bad step = not (lt f0 step)
 
-  pub bad-end : k ≤ i → any_step_bad (drop i (take k steps)) ≡ false
-  unfolding any_step_bad
-  bad-end g = ap any_step_bad (drop_of_length-le (take k steps) {i = i} (rw (length-take-le k steps h) g))
+pub any-bad : (steps : List Float) → list_any bad steps ≡ any_step_bad steps
+unfolding any_step_bad
+any-bad [] = refl
+any-bad (s ∷ ss) = ap (λ (b : Bool). bad s || b) (any-bad ss)
 
 -- the checks of a record, outcome by outcome
 module _ (count : ℕ) (lens : List ℕ) (steps : List Float) (coefs : ℕ) where
@@ -50,26 +48,21 @@ module _ (count : ℕ) (lens : List ℕ) (steps : List Float) (coefs : ℕ) wher
 
 -- ---- what an answer of the checks gives
 
-module _ (count : ℕ) (lens : List ℕ) (steps : List Float) (coefs : ℕ) where
-  -- their numbers are above 0
-  pub map-numbered : Positive (map_checks count lens steps coefs)
-  map-numbered = (omega arith, (omega arith, (omega arith, (omega arith, (omega arith, tt)))))
+module _ (count : ℕ) (lens : List ℕ) (steps : List Float) (coefs : ℕ) (e : ◌≡◌ {A = ℕ} 0 (map_answer count lens steps coefs)) where
+  passes : first_refusal (map_checks count lens steps coefs) ≡ 0
+  unfolding map_answer
+  passes = sym e
 
-  module _ (e : ◌≡◌ {A = ℕ} 0 (map_answer count lens steps coefs)) where
-    passes : first_refusal (map_checks count lens steps coefs) ≡ 0
-    unfolding map_answer
-    passes = sym e
+  shape-passed : first_refusal (shape_checks count lens) ≡ 0
+  shape-passed = prefix-passed (shape_checks count lens) (length_check (size (take count lens)) coefs ++ refuse 5 (any_step_bad (take count steps)) ∷ []) passes
 
-    shape-passed : first_refusal (shape_checks count lens) ≡ 0
-    shape-passed = prefix-passed (shape_checks count lens) (length_check (size (take count lens)) coefs ++ refuse 5 (any_step_bad (take count steps)) ∷ []) passes
+  pub map-usable : length lens ≡ 4 → Usable count lens
+  map-usable four = usable count lens four shape-passed
 
-    pub map-usable : length lens ≡ 4 → Usable count lens
-    map-usable four = usable count lens four shape-passed
-
-    pub map-sized : coefs ≡ size (take count lens)
-    unfolding first_refusal
-    map-sized = go (eqb coefs (size (take count lens))) refl (sym (accepted-append count lens shape-passed (length_check (size (take count lens)) coefs ++ refuse 5 (any_step_bad (take count steps)) ∷ [])) ∙ passes)
-      where
-        go : (b : Bool) → eqb coefs (size (take count lens)) ≡ b → ◌≡◌ {A = ℕ} (cond (not b) 2 (cond (any_step_bad (take count steps)) 5 0)) 0 → coefs ≡ size (take count lens)
-        go true h z = eqb-true coefs (size (take count lens)) h
-        go false h z = absurd (omega (arith, z))
+  pub map-sized : coefs ≡ size (take count lens)
+  unfolding first_refusal
+  map-sized = go (eqb coefs (size (take count lens))) refl (sym (accepted-append count lens shape-passed (length_check (size (take count lens)) coefs ++ refuse 5 (any_step_bad (take count steps)) ∷ [])) ∙ passes)
+    where
+      go : (b : Bool) → eqb coefs (size (take count lens)) ≡ b → ◌≡◌ {A = ℕ} (cond (not b) 2 (cond (any_step_bad (take count steps)) 5 0)) 0 → coefs ≡ size (take count lens)
+      go true h z = eqb-true coefs (size (take count lens)) h
+      go false h z = absurd (omega (arith, z))

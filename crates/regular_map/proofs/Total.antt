@@ -30,7 +30,7 @@ use Rattle.regular_blocks.specs.Eval.{loc_on, regular_axes}
 use Rattle.regular_blocks.specs.Checks.{any_step_bad, map_checks, map_answer, from_values_answer, regular}
 use Rattle.regular_map.specs.Place.{loc_at}
 use Rattle.regular_map.specs.Total.{steps_condition, Representable, map_conditions, MapTotal, FromValuesTotal, RegularTotal, PlaceTotal}
-use Rattle.regular_map.proofs.Steps.{map-numbered}
+use Rattle.regular_map.specs.Laws.{numbered}
 
 -- ---- the steps
 
@@ -101,4 +101,4 @@ module _ (f : Format) (m : RegularMap) (x : List Float) where
 pub regular-total : RegularTotal
 regular-total f m coefs four four' =
     evaluation-total (regular f m coefs) (map_conditions m.count m.lens m.steps (length coefs)) (Representable f m)
-    (map-tests m.count m.lens m.steps four four' (length coefs)) (map-numbered m.count m.lens m.steps (length coefs)) (representable f m)
+    (map-tests m.count m.lens m.steps four four' (length coefs)) (numbered m.count m.lens m.steps (length coefs)) (representable f m)

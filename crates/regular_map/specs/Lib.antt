@@ -4,3 +4,4 @@ pub mod Total
 pub mod Records
 pub mod InUse
 pub mod OneQuery
+pub mod Laws

@@ -5,29 +5,35 @@ ghost use Rattle.multibspline.specs.Numbers.{f0};
 ghost use Rattle.regular.specs.Fit.{RegularFitLeaves};
 ghost use Rattle.regular_map.specs.Map.{made, blank, RegularBuilt};
 ghost use Rattle.regular_map.specs.Records.{map_of};
+ghost use Rattle.shape.specs.Axes.{AxesOnce};
 ghost use Rattle.shape.specs.Refusal.{answer_number, refusal_number};
 ghost use Rattle.regular_blocks.specs.Checks.{any_step_bad, map_answer, from_values_answer};
 
 use crate::record::MultiBsplineRegular;
-use evaluation::{points_by_stride, used_floats, used_lens};
-use shape::{Refusal, Shape};
+use evaluation::{points_by_stride, used_of};
+use shape::{Axes, Refusal, Shape};
 
-// Whether one of the first `count` steps is not above zero. A NaN is not.
-fn any_step_bad(steps: [f64; 4], count: usize) -> bool
-    requires { count ≤ 4 }
-    ensures { result ≡ any_step_bad (take count steps) }
+// Whether one of these steps is not above zero. A NaN is not.
+fn any_step_bad(steps: &[f64]) -> bool
+    ensures { result ≡ any_step_bad steps.now }
 {
-    let mut i = 0;
-    while i < count {
-        if !(steps[i] > 0.0) {
-            return true;
-        }
-        i += 1;
-    }
-    false
+    steps.iter().any(|step| !(*step > 0.0))
 }
 
-// The checks of a record: its shape, which is looked at once, the length of its coefficients, its steps.
+// The checks of a record: its shape, which is looked at once, the length of its coefficients, its steps. Its axes, where they pass.
+pub fn looked_at(shape: Shape, steps: [f64; 4], coeffs: usize) -> Result<Axes, Refusal>
+    ensures { AxesOnce (map_answer shape.count shape.dims steps coeffs) shape.count shape.dims result }
+{
+    let axes = shape.axes()?;
+    if coeffs != points_by_stride(axes) {
+        return Err(Refusal::DimensionMismatch);
+    }
+    if any_step_bad(&steps[..axes.count]) {
+        return Err(Refusal::NotIncreasing);
+    }
+    Ok(axes)
+}
+
 pub fn check_map(
     count: usize,
     dims: [usize; 4],
@@ -36,14 +42,7 @@ pub fn check_map(
 ) -> Result<(), Refusal>
     ensures { answer_number result ≡ map_answer count dims steps coeffs }
 {
-    let shape = Shape { count, dims };
-    shape.check()?;
-    if coeffs != points_by_stride(count, dims) {
-        return Err(Refusal::DimensionMismatch);
-    }
-    if any_step_bad(steps, count) {
-        return Err(Refusal::NotIncreasing);
-    }
+    looked_at(Shape { count, dims }, steps, coeffs)?;
     Ok(())
 }
 
@@ -75,9 +74,9 @@ fn accepted(
 {
     MultiBsplineRegular {
         count,
-        dims: used_lens(count, dims),
-        starts: used_floats(count, starts),
-        steps: used_floats(count, steps),
+        dims: used_of(count, dims, 0),
+        starts: used_of(count, starts, 0.0),
+        steps: used_of(count, steps, 0.0),
         linearize_extrapolation: linear,
     }
 }

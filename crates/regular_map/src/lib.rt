@@ -2,11 +2,8 @@
 // multibspline::regular.
 #![tactic(auto)]
 
-mod batch;
-mod blocks;
 mod build;
-mod eval;
-mod grid;
+mod lent;
 mod place;
 mod record;
 mod single;

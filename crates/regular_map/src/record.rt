@@ -13,7 +13,7 @@ ghost use Rattle.regular_map.specs.Records.{map_of};
 ghost use Rattle.regular_map.specs.Place.{RegularPlaced};
 ghost use Rattle.regular_blocks.specs.Checks.{map_answer, from_values_answer, regular};
 
-use crate::{batch, build, eval, place};
+use crate::{build, place};
 use multibspline::Saturation;
 use shape::{Refusal, Shape};
 
@@ -71,14 +71,14 @@ impl MultiBsplineRegular {
     pub fn interp_one(self, coeffs: &[f64], x: &[f64]) -> Result<f64, Refusal>
         ensures { OneValue (regular binary64 (map_of self) coeffs.now) x.now (answer_number result) (answer_or f0 result) }
     {
-        eval::one(self, coeffs, x)
+        map_calls::interp_one(self, coeffs, x)
     }
 
     // The gradient at a query, with the refusals of interp_one.
     pub fn interp_one_grad(self, coeffs: &[f64], x: &[f64]) -> Result<[f64; 4], Refusal>
         ensures { OneGradient (regular binary64 (map_of self) coeffs.now) x.now (answer_number result) (answer_or zeros result) }
     {
-        eval::one_grad(self, coeffs, x)
+        map_calls::interp_one_grad(self, coeffs, x)
     }
 
     // Values at a batch of queries, axis after axis: `out.len()` coordinates of axis 0, then those of axis 1, and so on. The
@@ -87,7 +87,7 @@ impl MultiBsplineRegular {
     pub fn interp(self, coeffs: &[f64], x: &[f64], out: &mut [f64]) -> Result<(), Refusal>
         ensures { ValueBatch (regular binary64 (map_of self) coeffs.now) x.now out.old (answer_number result) out.new }
     {
-        batch::values(self, coeffs, x, out)
+        map_calls::interp(self, coeffs, x, out)
     }
 
     // Gradients at a batch of queries, both axis after axis: of n entries, part k of entry i at k n + i. As `interp`; 2 also
@@ -95,7 +95,7 @@ impl MultiBsplineRegular {
     pub fn interp_grad(self, coeffs: &[f64], x: &[f64], out: &mut [f64]) -> Result<(), Refusal>
         ensures { GradientBatch (regular binary64 (map_of self) coeffs.now) x.now out.old (answer_number result) out.new }
     {
-        batch::gradients(self, coeffs, x, out)
+        map_calls::interp_grad(self, coeffs, x, out)
     }
 
     // A map from its coefficients, or the first of these refusals: 1, 2, 3 for the shape; 2, the length of `coeffs`; 5, a

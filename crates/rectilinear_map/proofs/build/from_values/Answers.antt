@@ -12,11 +12,15 @@ returns-in_err-coefficients c =
       rectilinear_fitted = c.in_err-coefficients.ensures;
     })
 
+pub invariant_of-accepted : goal.invariant_of-accepted
+invariant_of-accepted c =
+    let a = c.args in
+    record { usable = (fit-gridded a.shape.count a.shape.dims a.grid.now (length a.vals.now) (length a.coeffs.now) (length a.scratch.now) (omega (arith, c.well_formed)) c.in_ok-coefficients.ensures.answers).shape }
+
 pub accepted-requires : goal.accepted-requires
 accepted-requires c =
     let a = c.args in
-    let g = fit-gridded a.count a.dims a.grid.now (length a.vals.now) (length a.coeffs.now) (length a.scratch.now) (omega (arith, c.well_formed)) c.in_ok-coefficients.ensures.answers in
-    (g.shape, g.joined)
+    (fit-gridded a.shape.count a.shape.dims a.grid.now (length a.vals.now) (length a.coeffs.now) (length a.scratch.now) (omega (arith, c.well_formed)) c.in_ok-coefficients.ensures.answers).joined
 
 pub returns : goal.returns
 returns c = record { built_by_fit = built-accepted c.in_ok-coefficients.ensures.answers c.accepted.ensures; rectilinear_fitted = c.in_ok-coefficients.ensures }

@@ -1,0 +1,48 @@
+// A map as the calls that evaluate it are lent it: its record and its joined grid.
+ghost use Rattle.std.specs.Float.{binary64};
+ghost use Rattle.rectilinear_blocks.specs.Eval.{map_checks, rectilinear_axes};
+ghost use Rattle.rectilinear_map.specs.Laws.{numbered};
+ghost use Rattle.rectilinear_map.specs.Records.{map_of};
+
+use crate::build::looked_at;
+use crate::record::MultiBsplineRectilinear;
+use evaluation::strides_of;
+use map_calls::Lent;
+use rectilinear_blocks::Grid;
+use shape::{Refusal, Shape};
+
+#[derive(Clone, Copy)]
+pub struct WithGrid<'a> {
+    pub map: MultiBsplineRectilinear,
+    pub grid: &'a [f64],
+}
+
+impl<'a> Lent for WithGrid<'a> {
+    type Accepted = Grid<'a>;
+
+    ghost view = { λ lent. rectilinear_axes binary64 (map_of lent.map) lent.grid.now };
+
+    ghost checks = { λ lent coefs. map_checks lent.map.count lent.map.dims lent.grid.now coefs };
+
+    fn accept(self, coeffs: usize) -> Result<Grid<'a>, Refusal> {
+        let MultiBsplineRectilinear {
+            count,
+            dims,
+            low_ghost_coeffs,
+            high_ghost_coeffs,
+            linearize_extrapolation,
+        } = self.map;
+        let axes = looked_at(Shape { count, dims }, self.grid, coeffs)?;
+        Ok(Grid {
+            count,
+            dims,
+            strides: strides_of(axes),
+            knots: self.grid,
+            low: low_ghost_coeffs,
+            high: high_ghost_coeffs,
+            linear: linearize_extrapolation,
+        })
+    }
+
+    ghost positive = { λ lent coefs. numbered lent.map.count lent.map.dims lent.grid.now coefs };
+}
