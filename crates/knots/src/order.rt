@@ -6,41 +6,17 @@ ghost use Rattle.knots.specs.Knots.{rises, count_below};
 ghost use Rattle.knots.specs.Window.{Between};
 ghost use Rattle.knots.specs.Joined.{total, all_rise};
 
-use crate::joined::axis_knots;
-
-// 1 where b is not above a, else 0.
-fn fall(a: f64, b: f64) -> usize
-    ensures { (result ≡ cond (lt a b) 0 1) × (result ≤ 1) }
-{
-    if a < b {
-        return 0;
-    }
-    1
-}
-
-// Whether each knot is above the one before it. Every pair is looked at, with no early exit: knots that rise are the common
-// case, and a count of the pairs that do not is taken several pairs at a time.
+// Whether each knot is above the one before it.
 pub fn rising(knots: &[f64]) -> bool
     ensures { result ≡ rises knots.now }
 {
-    let mut falls: usize = 0;
-    for i in 1..knots.len() {
-        falls += fall(knots[i - 1], knots[i]);
+    if knots.is_empty() {
+        return true;
     }
-    falls == 0
-}
-
-// Whether the knots of each axis rise.
-pub fn all_rise(grid: &[f64], count: usize, dims: [usize; 4]) -> bool
-    requires { Usable count dims × (length grid.now ≡ total (take count dims)) }
-    ensures { result ≡ all_rise grid.now (take count dims) count }
-{
-    for axis in 0..count {
-        if !rising(axis_knots(grid, count, dims, axis)) {
-            return false;
-        }
-    }
-    true
+    knots
+        .iter()
+        .zip(&knots[1..])
+        .all(|(before, knot)| *before < *knot)
 }
 
 // 1 where the knot is below x, else 0: a number to add, so that nothing jumps on the data.
