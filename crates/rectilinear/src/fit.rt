@@ -10,7 +10,8 @@ use fits::fit;
 use knots::{Joined, knots_of_all};
 use shape::{Axes, Refusal, Shape};
 
-// The axes, once the checks of a fit have passed, from the joined grid and the lengths of its buffers.
+// The axes, once the checks of a fit have passed, from the joined grid and the lengths of its buffers. No twin of the regular
+// grid's: its tests of the grid and of the knots stand between the others, as the order of the refusals asks (regular/src/fit.rt).
 fn check_fit(
     shape: Shape,
     grid: &[f64],
@@ -21,7 +22,8 @@ fn check_fit(
     ensures { AxesOnce (first_refusal (rectilinear_fit_checks shape.count shape.dims grid.now vals coeffs scratch)) shape.count shape.dims result }
 {
     let axes = shape.axes()?;
-    if grid.len() != knots_of_all(axes) {
+    let knots = grid.len();
+    if knots != knots_of_all(axes) {
         return Err(Refusal::DimensionMismatch);
     }
     if coeffs != axes.points() {
@@ -55,6 +57,7 @@ pub fn coefficients(
 ) -> Result<(), Refusal>
     ensures { RectilinearFitted binary64 shape.count shape.dims grid.now vals.now coeffs.old scratch.old (answer_number result) coeffs.new scratch.new }
 {
+    // What both grids do from here on is `fits::fit`.
     let axes = check_fit(shape, grid, vals.len(), coeffs.len(), scratch.len())?;
     let joined = Joined { axes, knots: grid };
     fit(RectilinearGrid { joined }, vals, coeffs, scratch);

@@ -12,21 +12,21 @@ returns-in_err-axes c =
     rw (err-is {e = c.in_err-axes.field-0.0} c.from_residual.result c.from_residual.ensures.1)
     (fit-shape _ _ _ _ _ _ _ c.in_err-axes.ensures)
 
-pub returns-then-grid-knots_of_all : goal.returns-then-grid-knots_of_all
-returns-then-grid-knots_of_all c =
+pub returns-then-knots-knots_of_all : goal.returns-then-knots-knots_of_all
+returns-then-knots-knots_of_all c =
     let s = c.in_ok-axes.ensures in
-    fit-grid _ _ _ _ _ _ s.0 (λ z. c.if-grid-knots_of_all.true (z ∙ sym (rw (s.1.0, s.1.1) at c.knots_of_all.ensures)))
+    fit-grid _ _ _ _ _ _ s.0 (λ z. c.if-knots-knots_of_all.true (z ∙ sym (rw (s.1.0, s.1.1) at c.knots_of_all.ensures)))
 
 pub returns-then-coeffs-points : goal.returns-then-coeffs-points
 returns-then-coeffs-points c =
     let s = c.in_ok-axes.ensures in
-    let joined = c.if-grid-knots_of_all.false ∙ (rw (s.1.0, s.1.1) at c.knots_of_all.ensures) in
+    let joined = c.if-knots-knots_of_all.false ∙ (rw (s.1.0, s.1.1) at c.knots_of_all.ensures) in
     fit-coefs _ _ _ _ _ _ s.0 joined (λ z. c.if-coeffs-points.true (z ∙ sym (rw (s.1.0, s.1.1) at c.points.ensures)))
 
 pub returns-then-not-rises : goal.returns-then-not-rises
 returns-then-not-rises c =
     let s = c.in_ok-axes.ensures in
-    let joined = c.if-grid-knots_of_all.false ∙ (rw (s.1.0, s.1.1) at c.knots_of_all.ensures) in
+    let joined = c.if-knots-knots_of_all.false ∙ (rw (s.1.0, s.1.1) at c.knots_of_all.ensures) in
     let same = c.if-coeffs-points.false ∙ (rw (s.1.0, s.1.1) at c.points.ensures) in
     let four : length c.args.shape.dims ≡ 4 = omega (arith, c.well_formed) in
     let axes = axes-are c.args.shape.count c.args.shape.dims four (usable c.args.shape.count c.args.shape.dims four s.0) in
@@ -36,7 +36,7 @@ returns-then-not-rises c =
 pub returns-then-vals-points : goal.returns-then-vals-points
 returns-then-vals-points c =
     let s = c.in_ok-axes.ensures in
-    let joined = c.if-grid-knots_of_all.false ∙ (rw (s.1.0, s.1.1) at c.knots_of_all.ensures) in
+    let joined = c.if-knots-knots_of_all.false ∙ (rw (s.1.0, s.1.1) at c.knots_of_all.ensures) in
     let same = c.if-coeffs-points.false ∙ (rw (s.1.0, s.1.1) at c.points.ensures) in
     let four : length c.args.shape.dims ≡ 4 = omega (arith, c.well_formed) in
     let axes = axes-are c.args.shape.count c.args.shape.dims four (usable c.args.shape.count c.args.shape.dims four s.0) in
@@ -46,7 +46,7 @@ returns-then-vals-points c =
 pub returns-then-scratch-scratch_len : goal.returns-then-scratch-scratch_len
 returns-then-scratch-scratch_len c =
     let s = c.in_ok-axes.ensures in
-    let joined = c.if-grid-knots_of_all.false ∙ (rw (s.1.0, s.1.1) at c.knots_of_all.ensures) in
+    let joined = c.if-knots-knots_of_all.false ∙ (rw (s.1.0, s.1.1) at c.knots_of_all.ensures) in
     let same = c.if-coeffs-points.false ∙ (rw (s.1.0, s.1.1) at c.points.ensures) in
     let four : length c.args.shape.dims ≡ 4 = omega (arith, c.well_formed) in
     let axes = axes-are c.args.shape.count c.args.shape.dims four (usable c.args.shape.count c.args.shape.dims four s.0) in
@@ -58,7 +58,7 @@ returns-then-scratch-scratch_len c =
 pub returns : goal.returns
 returns c =
     let s = c.in_ok-axes.ensures in
-    let joined = c.if-grid-knots_of_all.false ∙ (rw (s.1.0, s.1.1) at c.knots_of_all.ensures) in
+    let joined = c.if-knots-knots_of_all.false ∙ (rw (s.1.0, s.1.1) at c.knots_of_all.ensures) in
     let same = c.if-coeffs-points.false ∙ (rw (s.1.0, s.1.1) at c.points.ensures) in
     let four : length c.args.shape.dims ≡ 4 = omega (arith, c.well_formed) in
     let axes = axes-are c.args.shape.count c.args.shape.dims four (usable c.args.shape.count c.args.shape.dims four s.0) in
