@@ -48,8 +48,8 @@ fn count_from(knots: &[f64], x: f64, low: usize, len: usize) -> usize
     ensures { (result ≡ count_below knots.now x) × (result ≤ length knots.now) }
 {
     let mut count = low;
-    for i in low..low + len {
-        count += below(knots[i], x);
+    for knot in &knots[low..low + len] {
+        count += below(*knot, x);
     }
     count
 }
@@ -63,6 +63,7 @@ pub fn count_below(knots: &[f64], x: f64) -> usize
 {
     let mut low: usize = 0;
     let mut len = knots.len();
+    // By hand, since no range or iterator goes on by a quarter of what is left.
     while 16 < len {
         low = next_low(knots, x, low, len);
         len -= 3 * (len / 4);
