@@ -1,10 +1,8 @@
 // Whether knots rise, and how many are below a query.
-ghost use Rattle.std.specs.Prelude.{◌≡◌, true, cond, ◌+◌, ◌-◌, ◌*◌, ◌/◌, ◌≤◌, length, take};
+ghost use Rattle.std.specs.Prelude.{◌≡◌, true, cond, ◌+◌, ◌-◌, ◌*◌, ◌/◌, ◌≤◌, length};
 ghost use Rattle.std.specs.Float.Ieee.{lt};
-ghost use Rattle.shape.specs.Usable.{Usable};
 ghost use Rattle.knots.specs.Knots.{rises, count_below};
 ghost use Rattle.knots.specs.Window.{Between};
-ghost use Rattle.knots.specs.Joined.{total, all_rise};
 
 // Whether each knot is above the one before it.
 pub fn rising(knots: &[f64]) -> bool
