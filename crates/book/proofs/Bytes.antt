@@ -3,7 +3,7 @@ use mathlib.Core.Path.{◌≡◌, refl, sym, ap, ◌∙◌}
 use mathlib.Core.Logic.{◌≢◌}
 use mathlib.Core.Bool.{Bool, true, false, cond, not}
 use mathlib.Core.List.{List, [], ◌∷◌}
-use Prim.Native.Nat.{ℕ, zero, suc, ◌+◌, ◌-◌, ◌*◌, ◌≤◌, ◌<◌}
+use Prim.Native.Nat.{ℕ, zero, suc, ◌+◌, ◌-◌, ◌*◌, ◌<◌}
 use native.Mathlib.Nat.{not-suc-le-zero, le_of_suc-le-suc}
 use native.Mathlib.Omega.{arith}
 use lib.ListN.{length, get_or, set, replicate}
@@ -18,16 +18,7 @@ use Rattle.shape.specs.Below.{any_below}
 use Rattle.book.specs.LineCall.{byte_above, byte_below, one_more, bumped}
 use Rattle.book.specs.Due.{DueBytesMeans}
 use Rattle.book.specs.Order.{sum}
-use Rattle.shape.proofs.Below.{and_both, any_none, none-at, NoneYet, none-step, one_found}
-
--- ---- a search along a line for a byte above a: none among the first i yet
-
-module _ (a base stride n : ℕ) (ledger : List ℕ) (i : ℕ) where
-  pub above_step : NoneYet (byte_above a base stride ledger) n i → i < n → get_or ledger (base + i * stride) 0 ≤ a → NoneYet (byte_above a base stride ledger) n (i + 1)
-  above_step w h k = none-step (byte_above a base stride ledger) n i w h (le-ltb a _ k)
-
-  pub above-found : i < n → a < get_or ledger (base + i * stride) 0 → true ≡ any_below (byte_above a base stride ledger) n
-  above-found h k = one_found (byte_above a base stride ledger) n i h (lt-ltb a _ k)
+use Rattle.shape.proofs.Below.{and_both, any_none, none-at}
 
 -- neither is found: each byte is a
 pub bytes-are : (a base stride n : ℕ) (ledger : List ℕ) → any_below (byte_above a base stride ledger) n ≡ false → any_below (byte_below a base stride ledger) n ≡ false

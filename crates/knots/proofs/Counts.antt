@@ -144,16 +144,6 @@ pub record Counting (ks : List Float) (x : Float) (high c i : ℕ) : Type 0 wher
   pub not-below : (k : ℕ) → c ≤ k → k < i → lt (get_or ks k nan) x ≡ false
   pub rest : (k : ℕ) → high ≤ k → k < length ks → lt (get_or ks k nan) x ≡ false
 
-pub counting-start : {ks : List Float} {x : Float} {low high : ℕ} → Between ks x low high → Counting ks x high low low
-counting-start b = record {
-  some = omega arith;
-  most = b.low-high;
-  high_end = b.high_end;
-  below = b.below;
-  not-below = λ k h g. absurd (let q : ⊥ = omega arith in q);
-  rest = b.not-below;
-}
-
 module _ {ks : List Float} {x : Float} {high c i : ℕ} (w : Counting ks x high c i) where
   -- a knot below x has none before it that is not
   counting_more : rises ks ≡ true → i < high → lt (get_or ks i nan) x ≡ true → Counting ks x high (c + 1) (i + 1)

@@ -2,16 +2,17 @@
 -- Assumes nothing.
 use mathlib.Core.Path.{◌≡◌, refl, sym, ap, ◌∙◌}
 use mathlib.Core.Logic.{inl, inr}
-use mathlib.Core.Bool.{Bool, true, false, not}
+use mathlib.Core.Bool.{Bool, true, false, ◌&&◌}
 use mathlib.Core.List.{List, [], ◌∷◌}
 use Prim.Native.Nat.{ℕ, zero, suc, ◌+◌, ◌-◌, ◌*◌, ◌≤◌, ◌<◌}
 use native.Mathlib.Nat.{eq-or-lt_of_le, mul-le-mul_left, mul-le-mul_right}
 use native.Mathlib.Numerals.{add-one}
 use native.Mathlib.Omega.{arith}
-use borrow.Author.Tests.{not-true, not-false}
 use lib.ListN.{length, get_or, take, drop, length-drop, drop_of_length-le}
 use lib.Seq.{drop-cons, slice-cons, length-take-le, take-take}
 use lib.Ieee.{Float}
+use Rattle.std.specs.List.{list_all, range_with_len}
+use Rattle.std.proofs.Math.Bool.{and_assoc}
 use Rattle.shape.specs.Shape.{product, size, points}
 use Rattle.shape.specs.Checks.{most_points}
 use Rattle.shape.specs.Usable.{Usable}
@@ -19,6 +20,7 @@ use Rattle.shape.proofs.Below.{and_both}
 use Rattle.shape.proofs.Accepted.{axes-are, points-are}
 use Rattle.knots.specs.Knots.{rises}
 use Rattle.knots.specs.Joined.{total, knots_of, all_rise}
+use Rattle.knots.proofs.Increase.{and-true}
 
 -- ---- the axes from i on, of the first k: one more axis, and none
 
@@ -128,11 +130,15 @@ module _ (grid : List Float) (dims : List ℕ) where
       go false q = refl
       go true q = sym (axis-rises k q a h) ∙ e
 
-  -- by the part ks that the code looks at, and by what it finds: r
-  module _ (a : ℕ) {ks : List Float} {r : Bool} (part : ks ≡ knots_of grid dims a) (found : r ≡ rises ks) where
-    pub one-more-rises : all_rise grid dims a ≡ true → not r ≡ false → all_rise grid dims (a + 1) ≡ true
-    unfolding all_rise
-    one-more-rises h e = rw (add-one a) (rw (h, ← part, ← found) (not-false r e))
+  -- from axis a on, one after the other
+  rises-from : (a k : ℕ) → all_rise grid dims (a + k) ≡ (all_rise grid dims a && list_all (λ (i : ℕ). rises (knots_of grid dims i)) (range_with_len a k))
+  unfolding all_rise
+  rises-from a zero = let e : a + 0 ≡ a = omega arith in rw e (sym (and-true (all_rise grid dims a)))
+  rises-from a (suc k) =
+      let e : a + suc k ≡ a + 1 + k = omega arith in
+      let rest : Bool = list_all (λ (i : ℕ). rises (knots_of grid dims i)) (range_with_len (a + 1) k) in
+      rw e (rises-from (a + 1) k ∙ ap (λ (m : ℕ). all_rise grid dims m && rest) (add-one a) ∙ and_assoc (all_rise grid dims a) (rises (knots_of grid dims a)) rest)
 
-    pub one-falls : (k : ℕ) → a < k → not r ≡ true → all_rise grid dims k ≡ false
-    one-falls k h e = not-all-rise k a h (ap rises (sym part) ∙ sym found ∙ not-true r e)
+  pub rises-by-axes : (n : ℕ) → list_all (λ (i : ℕ). rises (knots_of grid dims i)) (range_with_len 0 n) ≡ all_rise grid dims n
+  unfolding all_rise
+  rises-by-axes n = let e : 0 + n ≡ n = omega arith in sym (rw e at (rises-from 0 n))

@@ -1,8 +1,10 @@
 // The joined grid of a rectilinear map, and the knots of an axis as a part of it.
 ghost use Rattle.std.specs.Prelude.{◌≡◌, ◌≤◌, ◌<◌, length, take};
 ghost use Rattle.shape.specs.Checks.{most_points};
-ghost use Rattle.shape.specs.Usable.{Usable};
-ghost use Rattle.knots.specs.Joined.{total, knots_of};
+ghost use Rattle.knots.specs.Joined.{total, knots_of, all_rise};
+
+use crate::order::rising;
+use shape::Axes;
 
 // How many knots some axes have.
 fn knots_on(dims: &[usize]) -> usize
@@ -17,18 +19,38 @@ fn knots_on(dims: &[usize]) -> usize
 }
 
 // How many knots all axes have: the length of the joined grid.
-pub fn grid_len(count: usize, dims: [usize; 4]) -> usize
-    requires { Usable count dims }
-    ensures { result ≡ total (take count dims) }
+pub fn knots_of_all(axes: Axes) -> usize
+    ensures { result ≡ total (take axes.count axes.dims) }
 {
-    knots_on(&dims[..count])
+    let dims = axes.dims;
+    knots_on(&dims[..axes.count])
 }
 
-pub fn axis_knots(grid: &[f64], count: usize, dims: [usize; 4], axis: usize) -> &[f64]
-    requires { (axis < count) × Usable count dims × (length grid.now ≡ total (take count dims)) }
-    ensures { result.now ≡ knots_of grid.now (take count dims) axis }
-{
-    let from = knots_on(&dims[..axis]);
-    let to = from + dims[axis];
-    &grid[from..to]
+// The axes, and the knots of each, axis after axis, which are lent.
+#[derive(Clone, Copy)]
+pub struct Joined<'a> {
+    pub axes: Axes,
+    pub knots: &'a [f64],
+    ghost as_many: { length knots.now ≡ total (take axes.count axes.dims) },
+}
+
+impl<'a> Joined<'a> {
+    // The knots of an axis.
+    pub fn along(self, axis: usize) -> &'a [f64]
+        requires { axis < self.axes.count }
+        ensures { result.now ≡ knots_of self.entry.knots.now (take self.entry.axes.count self.entry.axes.dims) axis }
+    {
+        let dims = self.axes.dims;
+        let knots = self.knots;
+        let from = knots_on(&dims[..axis]);
+        let to = from + dims[axis];
+        &knots[from..to]
+    }
+
+    // Whether the knots of each axis rise.
+    pub fn rises(self) -> bool
+        ensures { result ≡ all_rise self.entry.knots.now (take self.entry.axes.count self.entry.axes.dims) self.entry.axes.count }
+    {
+        (0..self.axes.count).all(|axis| rising(self.along(axis)))
+    }
 }

@@ -2,10 +2,12 @@
 // query, and the query's place. These are inner functions of the library. After interpn's multibspline::rectilinear.
 #![tactic(auto)]
 
+mod by_parts;
 mod joined;
 mod order;
 mod place;
 
-pub use joined::{axis_knots, grid_len};
-pub use order::{all_rise, count_below, rising};
+pub use by_parts::{all_rise, axis_knots, grid_len};
+pub use joined::{Joined, knots_of_all};
+pub use order::{count_below, rising};
 pub use place::{Loc, get_loc, loc_of};

@@ -1,46 +1,20 @@
 // Whether knots rise, and how many are below a query.
-ghost use Rattle.std.specs.Prelude.{◌≡◌, true, cond, ◌+◌, ◌-◌, ◌*◌, ◌/◌, ◌≤◌, length, take};
+ghost use Rattle.std.specs.Prelude.{◌≡◌, true, cond, ◌+◌, ◌-◌, ◌*◌, ◌/◌, ◌≤◌, length};
 ghost use Rattle.std.specs.Float.Ieee.{lt};
-ghost use Rattle.shape.specs.Usable.{Usable};
 ghost use Rattle.knots.specs.Knots.{rises, count_below};
 ghost use Rattle.knots.specs.Window.{Between};
-ghost use Rattle.knots.specs.Joined.{total, all_rise};
 
-use crate::joined::axis_knots;
-
-// 1 where b is not above a, else 0.
-fn fall(a: f64, b: f64) -> usize
-    ensures { (result ≡ cond (lt a b) 0 1) × (result ≤ 1) }
-{
-    if a < b {
-        return 0;
-    }
-    1
-}
-
-// Whether each knot is above the one before it. Every pair is looked at, with no early exit: knots that rise are the common
-// case, and a count of the pairs that do not is taken several pairs at a time.
+// Whether each knot is above the one before it.
 pub fn rising(knots: &[f64]) -> bool
     ensures { result ≡ rises knots.now }
 {
-    let mut falls: usize = 0;
-    for i in 1..knots.len() {
-        falls += fall(knots[i - 1], knots[i]);
+    if knots.is_empty() {
+        return true;
     }
-    falls == 0
-}
-
-// Whether the knots of each axis rise.
-pub fn all_rise(grid: &[f64], count: usize, dims: [usize; 4]) -> bool
-    requires { Usable count dims × (length grid.now ≡ total (take count dims)) }
-    ensures { result ≡ all_rise grid.now (take count dims) count }
-{
-    for axis in 0..count {
-        if !rising(axis_knots(grid, count, dims, axis)) {
-            return false;
-        }
-    }
-    true
+    knots
+        .iter()
+        .zip(&knots[1..])
+        .all(|(before, knot)| *before < *knot)
 }
 
 // 1 where the knot is below x, else 0: a number to add, so that nothing jumps on the data.
@@ -72,8 +46,8 @@ fn count_from(knots: &[f64], x: f64, low: usize, len: usize) -> usize
     ensures { (result ≡ count_below knots.now x) × (result ≤ length knots.now) }
 {
     let mut count = low;
-    for i in low..low + len {
-        count += below(knots[i], x);
+    for knot in &knots[low..low + len] {
+        count += below(*knot, x);
     }
     count
 }
@@ -87,6 +61,7 @@ pub fn count_below(knots: &[f64], x: f64) -> usize
 {
     let mut low: usize = 0;
     let mut len = knots.len();
+    // By hand, since no range or iterator goes on by a quarter of what is left.
     while 16 < len {
         low = next_low(knots, x, low, len);
         len -= 3 * (len / 4);

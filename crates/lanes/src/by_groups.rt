@@ -88,6 +88,7 @@ pub fn solve_ends<S: System>(system: S, lines: usize, upper: &[f64], coeffs: &mu
     requires uppers { Uppers (upper_number binary64 (S.rows system)) (S.rows system).points upper.now }
     ensures { coeffs.new ≡ solve_lines nan (coefficient binary64 (S.rows system)) (S.rows system).points 1 lines coeffs.old }
 {
+    // By hand, since a bundle says how many lines it took: `step_by` would need the eight here a second time.
     let mut first = 0;
     while first < lines {
         first += solve_bundle(system, lines, first, upper, coeffs);

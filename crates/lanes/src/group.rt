@@ -63,6 +63,7 @@ fn sweep<T: Turn, G: Gap>(turn: T, p: usize, q: usize, gap: G, count: usize, cel
     ensures { cells.new ≡ swept (T.op turn) p q (G.cells gap) count cells.old }
 {
     let apart = gap.cells();
+    // By number, since both rows are in one slice and change as they go: `iter_mut` could lend one of them alone.
     for j in 0..count {
         turn_cell(turn, p + j * apart, q + j * apart, cells);
     }

@@ -22,6 +22,7 @@ pub fn keep_line(along: Line, coeffs: &[f64], scratch: &mut [f64])
     requires room { along.longest + along.n ≤ length scratch.old }
     ensures { scratch.new ≡ put (from along.longest) (samples along coeffs.now) along.n scratch.old }
 {
+    // The number says a cell at a stride, and one of scratch.
     for i in 0..along.n {
         keep_entry(along, i, coeffs, scratch);
     }

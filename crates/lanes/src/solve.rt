@@ -1,5 +1,7 @@
 // The lines of a group, row by row in place, with the upper numbers at hand. The last row's right side is taken first, since the
-// sweep changes the row before it; from then on each row needs only the row beside it.
+// sweep changes the row before it; from then on each row needs only the row beside it. `lines` has rows of the same names and is
+// no twin: a line alone works its upper numbers out with its right sides and leaves both in scratch, as its promise says. What the
+// two share is `System` and `Turn`.
 ghost use Rattle.std.specs.Prelude.{◌≡◌, ◌+◌, ◌-◌, ◌≤◌, ◌<◌, length};
 ghost use Rattle.std.specs.Float.{binary64, nan};
 ghost use Rattle.lines.specs.Rows.{coefficient, upper_number};
@@ -55,6 +57,7 @@ fn inner_rows<S: System, G: Gap>(system: S, group: Group<G>, upper: &[f64], coef
     ensures { coeffs.new ≡ turned_up (inner_at binary64 (S.rows system) upper.now) (group_of G.cells group) (group.n - 2) coeffs.old }
 {
     let last = group.n - 1;
+    // The number says a row of the system, an upper number and the cells of two rows.
     for i in 1..last {
         inner_row(system, group, i, upper, coeffs);
     }
@@ -90,6 +93,7 @@ fn back_rows<G: Gap>(group: Group<G>, upper: &[f64], coeffs: &mut [f64])
     ensures { coeffs.new ≡ turned_down (back_cell binary64 upper.now) (group_of G.cells group) (group.n - 1) coeffs.old }
 {
     let last = group.n - 1;
+    // The number says an upper number and the cells of two rows.
     for i in (0..last).rev() {
         back_row(group, i, upper, coeffs);
     }

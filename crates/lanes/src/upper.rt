@@ -35,6 +35,7 @@ pub fn upper_numbers<S: System>(system: S, upper: &mut [f64])
     requires { (S.rows system).points ≤ length upper.old }
     ensures { upper.new ≡ put (from 0) (upper_number binary64 (S.rows system) zero_samples) (S.rows system).points upper.old }
 {
+    // The number says a row of the system; the number of the row before stands beside.
     for i in 0..system.points() {
         next_upper(system, i, upper);
     }

@@ -64,6 +64,7 @@ pub fn bump_line(axis: usize, found: Line, ledger: &mut [u8])
     ensures { ledger.new ≡ write_line found.base found.stride (one_more found.base found.stride ledger.old) found.n ledger.old }
 {
     let next = (axis + 1) as u8;
+    // The number says a cell at a stride.
     for i in 0..found.n {
         set_byte(found, i, next, ledger);
     }

@@ -69,6 +69,7 @@ fn inner_rows<S: System>(
     keep_row(0, along.longest, first, scratch);
     let last = along.n - 1;
     let mut row = first;
+    // The number says a row of the system and a cell at a stride.
     for i in 1..last {
         row = inner_row(system, along, i, row, coeffs, scratch);
     }

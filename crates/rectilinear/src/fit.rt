@@ -7,10 +7,11 @@ ghost use Rattle.rectilinear.specs.Fit.{rectilinear_fit_checks, RectilinearFitte
 
 use crate::grid::RectilinearGrid;
 use fits::fit;
-use knots::{all_rise, grid_len};
+use knots::{Joined, knots_of_all};
 use shape::{Axes, Refusal, Shape};
 
-// The axes, once the checks of a fit have passed, from the joined grid and the lengths of its buffers.
+// The axes, once the checks of a fit have passed, from the joined grid and the lengths of its buffers. No twin of the regular
+// grid's: its tests of the grid and of the knots stand between the others, as the order of the refusals asks (regular/src/fit.rt).
 fn check_fit(
     shape: Shape,
     grid: &[f64],
@@ -21,15 +22,15 @@ fn check_fit(
     ensures { AxesOnce (first_refusal (rectilinear_fit_checks shape.count shape.dims grid.now vals coeffs scratch)) shape.count shape.dims result }
 {
     let axes = shape.axes()?;
-    let Axes { count, dims } = axes;
     let knots = grid.len();
-    if knots != grid_len(count, dims) {
+    if knots != knots_of_all(axes) {
         return Err(Refusal::DimensionMismatch);
     }
     if coeffs != axes.points() {
         return Err(Refusal::DimensionMismatch);
     }
-    if !all_rise(grid, count, dims) {
+    let joined = Joined { axes, knots: grid };
+    if !joined.rises() {
         return Err(Refusal::NotIncreasing);
     }
     if vals != axes.points() {
@@ -56,7 +57,9 @@ pub fn coefficients(
 ) -> Result<(), Refusal>
     ensures { RectilinearFitted binary64 shape.count shape.dims grid.now vals.now coeffs.old scratch.old (answer_number result) coeffs.new scratch.new }
 {
+    // What both grids do from here on is `fits::fit`.
     let axes = check_fit(shape, grid, vals.len(), coeffs.len(), scratch.len())?;
-    fit(RectilinearGrid { axes, knots: grid }, vals, coeffs, scratch);
+    let joined = Joined { axes, knots: grid };
+    fit(RectilinearGrid { joined }, vals, coeffs, scratch);
     Ok(())
 }

@@ -9,7 +9,9 @@ use crate::grid::RegularGrid;
 use fits::fit;
 use shape::{Axes, Refusal, Shape};
 
-// The axes, once the checks of a fit have passed, from the lengths of its buffers.
+// The axes, once the checks of a fit have passed, from the lengths of its buffers. `rectilinear` has its own: its tests of the grid
+// and of the knots stand between these, as the order of the refusals asks, and a trait of those two tests, with an instance for
+// each grid, is longer than the three that both have.
 fn check_fit(shape: Shape, vals: usize, coeffs: usize, scratch: usize) -> Result<Axes, Refusal>
     ensures { AxesOnce (first_refusal (regular_fit_checks shape.count shape.dims vals coeffs scratch)) shape.count shape.dims result }
 {
@@ -39,6 +41,7 @@ pub fn coefficients(
 ) -> Result<(), Refusal>
     ensures { RegularFitted binary64 shape.count shape.dims vals.now coeffs.old scratch.old (answer_number result) coeffs.new scratch.new }
 {
+    // What both grids do from here on is `fits::fit`.
     let axes = check_fit(shape, vals.len(), coeffs.len(), scratch.len())?;
     fit(RegularGrid { axes }, vals, coeffs, scratch);
     Ok(())

@@ -1,5 +1,10 @@
 // Stepwise fitting: begin, one line at a time in any order, or a list of lines, with a ledger that says what is solved. The
 // caller lends the ledger, one byte a cell: how many of the lines through it, axis 0 first, are solved.
+//
+// The calls of a grid have its name, as C has them; each is one line over steps.rt and list.rt, which serve both grids.
+//
+// Coefficients, ledger and scratch stay three slices: C lends each by itself, begin is handed no scratch, and the fit knows no
+// ledger. A struct of them would be made in eight calls and taken apart in four, for the six in between.
 #![tactic(auto)]
 
 mod list;

@@ -12,7 +12,7 @@ ghost use Rattle.stepwise.specs.Laws.{grid-positive, knots-positive, looks};
 use crate::list::fit_by_list;
 use crate::spacing::Spacing;
 use crate::steps::{begin, solve_line};
-use knots::{all_rise, grid_len};
+use knots::{Joined, knots_of_all};
 use rectilinear::RectilinearGrid;
 use shape::{Axes, Refusal, Shape};
 
@@ -33,7 +33,7 @@ impl<'a> Spacing for AtKnots<'a> {
 
     // 2 for the length of the joined grid.
     fn check_grid(self, axes: Axes) -> Result<(), Refusal> {
-        if self.grid.len() != grid_len(axes.count, axes.dims) {
+        if self.grid.len() != knots_of_all(axes) {
             return Err(Refusal::DimensionMismatch);
         }
         Ok(())
@@ -41,15 +41,22 @@ impl<'a> Spacing for AtKnots<'a> {
 
     // 5 where a knot is not above the one before it on its axis.
     fn check_knots(self, axes: Axes) -> Result<(), Refusal> {
-        if !all_rise(self.grid, axes.count, axes.dims) {
+        let joined = Joined {
+            axes,
+            knots: self.grid,
+        };
+        if !joined.rises() {
             return Err(Refusal::NotIncreasing);
         }
         Ok(())
     }
 
     fn grid(self, axes: Axes) -> RectilinearGrid<'a> {
-        let knots = self.grid;
-        RectilinearGrid { axes, knots }
+        let joined = Joined {
+            axes,
+            knots: self.grid,
+        };
+        RectilinearGrid { joined }
     }
 
     ghost grid_positive = { λ spacing dims. grid-positive dims spacing.grid.now };

@@ -1,5 +1,4 @@
-// Begin and the line call, on any grid. Coefficients, ledger and scratch stay three slices: C lends each by itself, begin is
-// handed no scratch, and the fit knows no ledger.
+// Begin and the line call, on any grid.
 ghost use Rattle.std.specs.Prelude.{◌≡◌, length, take};
 ghost use Rattle.std.specs.Float.{binary64, nan};
 ghost use Rattle.shape.specs.Checks.{first_refusal};

@@ -1,17 +1,20 @@
-use mathlib.Core.Path.{refl, sym, ◌∙◌}
+use mathlib.Core.Path.{◌∙◌}
 use native.Mathlib.Omega.{arith}
-use Rattle.knots.proofs.Increase.{rises-on, rises-end}
+use lib.ListN.{length-drop}
+use lib.Seq.{take_all}
+use lib.Ieee.{Float, lt}
+use Rattle.std.proofs.Common.{rules, tests}
+use Rattle.std.proofs.lemmas.Iterator.{YieldsList-from_slice, YieldsList-from_zip}
+use Rattle.std.proofs.lemmas.Iterator.Search.{all_from_yields_List}
+use Rattle.knots.proofs.Increase.{rises-by-pairs, rises-short}
 use Rattle.knots.proofs.order.rising.Goals as goal
 
-pub loop-i-init : goal.loop-i-init
-loop-i-init c = (omega arith, omega arith, refl)
-
-pub loop-i-preserved : goal.loop-i-preserved
-loop-i-preserved c =
-    let e = c.loop-i.invariant.2 ∙ rises-on c.args.knots.now c.loop-i.i (omega arith) c.loop-i.falls (omega arith) in
-    (omega arith, omega (arith, c.fall-falls.ensures.1), rw c.fall-falls.ensures.0 e)
+pub returns-then-is_empty : goal.returns-then-is_empty
+returns-then-is_empty c = search (rules, tests, rises-short)
 
 pub returns : goal.returns
 returns c =
-    let l = c.loop-i in
-    sym (l.invariant.2 ∙ rises-end c.args.knots.now l.i (omega arith) l.falls (omega arith))
+    all_from_yields_List (λ (p : Float × Float). lt p.0 p.1) c.all.new.self _ _ c.all.ensures.ran
+    (YieldsList-from_zip (YieldsList-from_slice c.args.knots.now cc) (YieldsList-from_slice _ (c.zip.ensures.second.0 ∙ take_all _ _ (rw (length-drop 1 c.args.knots.now) (omega arith)))))
+    (λ x b q k. search (rules, tests))
+    ∙ rises-by-pairs c.args.knots.now

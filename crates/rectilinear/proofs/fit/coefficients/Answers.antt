@@ -12,12 +12,12 @@ returns-in_err-axes c =
     rw (err-is {e = c.in_err-axes.field-0.0} c.from_residual.result c.from_residual.ensures.1)
     (fitted-refused _ c.in_err-axes.ensures)
 
-pub invariant_of-fit : goal.invariant_of-fit
-invariant_of-fit c =
+pub invariant_of-joined : goal.invariant_of-joined
+invariant_of-joined c =
     let a = c.args in
     let s = c.in_ok-axes.ensures in
     let r = fit-accepted a.shape.count a.shape.dims a.grid.now (length a.vals.now) (length a.coeffs.now) (length a.scratch.now) (omega (arith, c.well_formed)) s.0 in
-    record { joined = rw (s.1.0, s.1.1) r.joined }
+    record { as_many = rw (s.1.0, s.1.1) r.joined }
 
 pub fit-requires : goal.fit-requires
 fit-requires c =

@@ -11,42 +11,27 @@ use Rattle.stepwise.proofs.list.fit_by_list.Goals as goal
 
 pub returns-in_err-map : goal.returns-in_err-map
 returns-in_err-map g c =
-    let a = c.args in
-    let pg = g.met.S.Spacing.grid_positive a.spacing (take a.shape.count a.shape.dims) in
-    let pk = g.met.S.Spacing.knots_positive a.spacing (take a.shape.count a.shape.dims) in
     rw (err-is {e = c.in_err-map.field-0.0} c.from_residual.result c.from_residual.ensures.1)
-    (ran-not-begun pg pk _ c.in_err-map.ensures)
+    (ran-not-begun (g.met.S.Spacing.grid_positive _ _) (g.met.S.Spacing.knots_positive _ _) _ c.in_err-map.ensures)
 
 pub returns-in_err-check_lists : goal.returns-in_err-check_lists
 returns-in_err-check_lists g c =
-    let a = c.args in
-    let pg = g.met.S.Spacing.grid_positive a.spacing (take a.shape.count a.shape.dims) in
-    let pk = g.met.S.Spacing.knots_positive a.spacing (take a.shape.count a.shape.dims) in
     rw (err-is {e = c.in_err-check_lists.field-0.0} c.from_residual-in_err-check_lists.result c.from_residual-in_err-check_lists.ensures.1)
-    (ran-not-listed pg pk c.in_ok-map.ensures.0 _ c.in_err-check_lists.ensures)
+    (ran-not-listed (g.met.S.Spacing.grid_positive _ _) (g.met.S.Spacing.knots_positive _ _) c.in_ok-map.ensures.0 _ c.in_err-check_lists.ensures)
 
 pub start-requires : goal.start-requires
 start-requires g c =
     let a = c.args in
-    let gc = g.S.Spacing.grid_checks a.spacing (take a.shape.count a.shape.dims) in
-    let kc = g.S.Spacing.knots_checks a.spacing (take a.shape.count a.shape.dims) in
-    let pg = g.met.S.Spacing.grid_positive a.spacing (take a.shape.count a.shape.dims) in
-    let pk = g.met.S.Spacing.knots_positive a.spacing (take a.shape.count a.shape.dims) in
-    let p = begin-passed a.shape.count a.shape.dims gc kc pg pk (length a.vals.now) (length a.coeffs.now) (length a.ledger.now) (length a.scratch.now) c.in_ok-map.ensures.0 in
+    let p = begin-passed _ _ _ _ (g.met.S.Spacing.grid_positive _ _) (g.met.S.Spacing.knots_positive _ _) (length a.vals.now) (length a.coeffs.now) (length a.ledger.now) (length a.scratch.now) c.in_ok-map.ensures.0 in
     p.samples-size ∙ sym p.coefs-size
 
 pub run_list-requires : goal.run_list-requires
 run_list-requires g c =
-    let a = c.args in
-    let gc = g.S.Spacing.grid_checks a.spacing (take a.shape.count a.shape.dims) in
-    let kc = g.S.Spacing.knots_checks a.spacing (take a.shape.count a.shape.dims) in
-    let pg = g.met.S.Spacing.grid_positive a.spacing (take a.shape.count a.shape.dims) in
-    let pk = g.met.S.Spacing.knots_positive a.spacing (take a.shape.count a.shape.dims) in
     let f = c.in_ok-map.ensures in
     let p = two-agree _ _ _ (sym c.in_ok-check_lists.ensures) in
     record {
       answers_len = p.1;
-      scratch_value = rw (f.1.0, f.1.1) (begun-calls a.shape.count a.shape.dims gc kc pg pk _ _ _ f.0 c.start.ensures.0 c.start.ensures.1);
+      scratch_value = rw (f.1.0, f.1.1) (begun-calls _ _ _ _ (g.met.S.Spacing.grid_positive _ _) (g.met.S.Spacing.knots_positive _ _) _ _ _ f.0 c.start.ensures.0 c.start.ensures.1);
     }
 
 pub invariant_of-tasks : goal.invariant_of-tasks
@@ -56,10 +41,6 @@ pub returns : goal.returns
 returns g c =
     let a = c.args in
     let dims = take a.shape.count a.shape.dims in
-    let gc = g.S.Spacing.grid_checks a.spacing dims in
-    let kc = g.S.Spacing.knots_checks a.spacing dims in
-    let pg = g.met.S.Spacing.grid_positive a.spacing dims in
-    let pk = g.met.S.Spacing.knots_positive a.spacing dims in
     let f = c.in_ok-map.ensures in
-    ran-accepted pg pk f.0 c.in_ok-check_lists.ensures c.start.ensures.0 c.start.ensures.1 (rw (f.1.0, f.1.1) at c.run_list.ensures)
-    (spaced-order nan (solve binary64 (g.S.Spacing.rows a.spacing dims)) a.shape.count a.shape.dims (omega (arith, c.well_formed)) gc kc pg pk (g.met.S.Spacing.looks a.spacing dims) a.vals.now _ _ _ f.0 _)
+    ran-accepted (g.met.S.Spacing.grid_positive _ _) (g.met.S.Spacing.knots_positive _ _) f.0 c.in_ok-check_lists.ensures c.start.ensures.0 c.start.ensures.1 (rw (f.1.0, f.1.1) at c.run_list.ensures)
+    (spaced-order nan (solve binary64 (g.S.Spacing.rows a.spacing dims)) a.shape.count a.shape.dims (omega (arith, c.well_formed)) _ _ (g.met.S.Spacing.grid_positive _ _) (g.met.S.Spacing.knots_positive _ _) (g.met.S.Spacing.looks a.spacing dims) a.vals.now _ _ _ f.0 _)

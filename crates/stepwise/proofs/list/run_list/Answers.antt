@@ -1,5 +1,4 @@
 use mathlib.Core.Path.{◌∙◌}
-use lib.ListN.{take}
 use lib.Ieee.{nan}
 use Rattle.stepwise.proofs.Runs.{run-start, run_step, run-done}
 use Rattle.stepwise.proofs.list.run_list.Goals as goal
@@ -19,10 +18,7 @@ run_one-requires-clause-scratch_value g c =
 
 pub loop-i-preserved : goal.loop-i-preserved
 loop-i-preserved g c =
-    let a = c.args in
-    let gc = g.S.Spacing.grid_checks a.spacing (take a.map.count a.map.dims) in
-    let kc = g.S.Spacing.knots_checks a.spacing (take a.map.count a.map.dims) in
-    run_step a.map.count a.map.dims gc kc nan _ _ c.loop-i.invariant c.loop-i-test.true c.args.tasks.as_many c.requires.answers_len c.run_one.ensures
+    run_step _ _ _ _ nan _ _ c.loop-i.invariant c.loop-i-test.true c.args.tasks.as_many c.requires.answers_len c.run_one.ensures
 
 pub shape_of-coeffs : goal.shape_of-coeffs
 shape_of-coeffs g c = c.loop-i.invariant.same-coefs
@@ -38,7 +34,4 @@ shape_of-answers g c = c.loop-i.invariant.same-told
 
 pub returns : goal.returns
 returns g c =
-    let a = c.args in
-    let gc = g.S.Spacing.grid_checks a.spacing (take a.map.count a.map.dims) in
-    let kc = g.S.Spacing.knots_checks a.spacing (take a.map.count a.map.dims) in
-    run-done a.map.count a.map.dims gc kc nan _ _ c.loop-i.invariant c.loop-i-test.false c.requires.answers_len
+    run-done _ _ _ _ nan _ _ c.loop-i.invariant c.loop-i-test.false c.requires.answers_len

@@ -15,51 +15,31 @@ use Rattle.stepwise.proofs.steps.call_ready.Goals as goal
 pub find_due-requires : goal.find_due-requires
 find_due-requires g c =
     let a = c.args in
-    let gc = g.S.Spacing.grid_checks a.spacing (take a.axes.count a.axes.dims) in
-    let kc = g.S.Spacing.knots_checks a.spacing (take a.axes.count a.axes.dims) in
-    let pg = g.met.S.Spacing.grid_positive a.spacing (take a.axes.count a.axes.dims) in
-    let pk = g.met.S.Spacing.knots_positive a.spacing (take a.axes.count a.axes.dims) in
-    let p = call-ready a.axes.count a.axes.dims gc kc pg pk (length a.coeffs.now) (length a.ledger.now) (length a.scratch.now) (omega (arith, c.well_formed)) c.requires in
+    let p = call-ready _ _ _ _ (g.met.S.Spacing.grid_positive _ _) (g.met.S.Spacing.knots_positive _ _) (length a.coeffs.now) (length a.ledger.now) (length a.scratch.now) (omega (arith, c.well_formed)) c.requires in
     p.ledger-size
 
 pub grid-grid-requires : goal.grid-grid-requires
 grid-grid-requires g c =
     let a = c.args in
-    let gc = g.S.Spacing.grid_checks a.spacing (take a.axes.count a.axes.dims) in
-    let kc = g.S.Spacing.knots_checks a.spacing (take a.axes.count a.axes.dims) in
-    let pg = g.met.S.Spacing.grid_positive a.spacing (take a.axes.count a.axes.dims) in
-    let pk = g.met.S.Spacing.knots_positive a.spacing (take a.axes.count a.axes.dims) in
-    let p = line-due a.axes.count a.axes.dims gc kc pg pk (record { axis = a.axis; line = a.line; scratch = a.scratch.now }) (record { coefs = a.coeffs.now; ledger = a.ledger.now }) c.requires (omega (arith, c.well_formed)) c.in_ok-found.ensures in
+    let p = line-due _ _ _ _ (g.met.S.Spacing.grid_positive _ _) (g.met.S.Spacing.knots_positive _ _) _ _ c.requires (omega (arith, c.well_formed)) c.in_ok-found.ensures in
     p.ready.ready.grid-passed
 
 pub solve_found-requires-clause-line_fits : goal.solve_found-requires-clause-line_fits
 solve_found-requires-clause-line_fits g c =
     let a = c.args in
-    let gc = g.S.Spacing.grid_checks a.spacing (take a.axes.count a.axes.dims) in
-    let kc = g.S.Spacing.knots_checks a.spacing (take a.axes.count a.axes.dims) in
-    let pg = g.met.S.Spacing.grid_positive a.spacing (take a.axes.count a.axes.dims) in
-    let pk = g.met.S.Spacing.knots_positive a.spacing (take a.axes.count a.axes.dims) in
-    let p = line-due a.axes.count a.axes.dims gc kc pg pk (record { axis = a.axis; line = a.line; scratch = a.scratch.now }) (record { coefs = a.coeffs.now; ledger = a.ledger.now }) c.requires (omega (arith, c.well_formed)) c.in_ok-found.ensures in
+    let p = line-due _ _ _ _ (g.met.S.Spacing.grid_positive _ _) (g.met.S.Spacing.knots_positive _ _) _ _ c.requires (omega (arith, c.well_formed)) c.in_ok-found.ensures in
     p.fits
 
 pub bump_line-requires : goal.bump_line-requires
 bump_line-requires g c =
     let a = c.args in
-    let gc = g.S.Spacing.grid_checks a.spacing (take a.axes.count a.axes.dims) in
-    let kc = g.S.Spacing.knots_checks a.spacing (take a.axes.count a.axes.dims) in
-    let pg = g.met.S.Spacing.grid_positive a.spacing (take a.axes.count a.axes.dims) in
-    let pk = g.met.S.Spacing.knots_positive a.spacing (take a.axes.count a.axes.dims) in
-    let p = line-due a.axes.count a.axes.dims gc kc pg pk (record { axis = a.axis; line = a.line; scratch = a.scratch.now }) (record { coefs = a.coeffs.now; ledger = a.ledger.now }) c.requires (omega (arith, c.well_formed)) c.in_ok-found.ensures in
+    let p = line-due _ _ _ _ (g.met.S.Spacing.grid_positive _ _) (g.met.S.Spacing.knots_positive _ _) _ _ c.requires (omega (arith, c.well_formed)) c.in_ok-found.ensures in
     (omega (arith, p.is-axis, p.ready.shape.at-most-four), p.inside, p.bytes)
 
 pub returns : goal.returns
 returns g c =
     let a = c.args in
-    let gc = g.S.Spacing.grid_checks a.spacing (take a.axes.count a.axes.dims) in
-    let kc = g.S.Spacing.knots_checks a.spacing (take a.axes.count a.axes.dims) in
-    let pg = g.met.S.Spacing.grid_positive a.spacing (take a.axes.count a.axes.dims) in
-    let pk = g.met.S.Spacing.knots_positive a.spacing (take a.axes.count a.axes.dims) in
-    let p = line-due a.axes.count a.axes.dims gc kc pg pk (record { axis = a.axis; line = a.line; scratch = a.scratch.now }) (record { coefs = a.coeffs.now; ledger = a.ledger.now }) c.requires (omega (arith, c.well_formed)) c.in_ok-found.ensures in
+    let p = line-due _ _ _ _ (g.met.S.Spacing.grid_positive _ _) (g.met.S.Spacing.knots_positive _ _) _ _ c.requires (omega (arith, c.well_formed)) c.in_ok-found.ensures in
     let rows = g.S.Spacing.rows a.spacing (take a.axes.count a.axes.dims) in
     let u = upper binary64 rows in
     let v = solve binary64 rows in
@@ -74,8 +54,4 @@ pub returns-in_err-found : goal.returns-in_err-found
 returns-in_err-found g c =
     rw (err-is {e = c.in_err-found.field-0.0} c.from_residual.result c.from_residual.ensures.1) (
     let a = c.args in
-    let gc = g.S.Spacing.grid_checks a.spacing (take a.axes.count a.axes.dims) in
-    let kc = g.S.Spacing.knots_checks a.spacing (take a.axes.count a.axes.dims) in
-    let pg = g.met.S.Spacing.grid_positive a.spacing (take a.axes.count a.axes.dims) in
-    let pk = g.met.S.Spacing.knots_positive a.spacing (take a.axes.count a.axes.dims) in
-    not-due a.axes.count a.axes.dims gc kc pg pk (record { axis = a.axis; line = a.line; scratch = a.scratch.now }) (record { coefs = a.coeffs.now; ledger = a.ledger.now }) c.requires _ c.in_err-found.ensures)
+    not-due _ _ _ _ (g.met.S.Spacing.grid_positive _ _) (g.met.S.Spacing.knots_positive _ _) _ _ c.requires _ c.in_err-found.ensures)

@@ -6,31 +6,31 @@ use Rattle.shape.proofs.Accepted.{axes-are}
 use Rattle.rectilinear.proofs.Axis.{knots-long, system-is}
 use Rattle.rectilinear.proofs.grid.RectilinearGridGrid.axis.Goals as goal
 
-pub axis_knots-grid-requires : goal.axis_knots-grid-requires
-axis_knots-grid-requires c =
-    let axes = c.args.self.axes in
+pub along-grid-requires : goal.along-grid-requires
+along-grid-requires c =
+    let axes = c.args.self.joined.axes in
     let four : length axes.dims ≡ 4 = omega (arith, c.well_formed) in
-    (rw (axes-are axes.count axes.dims four axes.usable) at c.requires, axes.usable, c.args.self.joined)
+    rw (axes-are axes.count axes.dims four axes.usable) at c.requires
 
 pub low_ghost_coeffs-low_ghost-requires : goal.low_ghost_coeffs-low_ghost-requires
 low_ghost_coeffs-low_ghost-requires c =
-    let axes = c.args.self.axes in
+    let axes = c.args.self.joined.axes in
     let four : length axes.dims ≡ 4 = omega (arith, c.well_formed) in
-    knots-long axes.count axes.dims four axes.usable c.args.a (rw (axes-are axes.count axes.dims four axes.usable) at c.requires) c.args.self.knots.now c.args.self.joined c.axis_knots-grid.ensures
+    knots-long axes.count axes.dims four axes.usable c.args.a (rw (axes-are axes.count axes.dims four axes.usable) at c.requires) c.args.self.joined.knots.now c.args.self.joined.as_many c.along-grid.ensures
 
 pub high_ghost_coeffs-high_ghost-requires : goal.high_ghost_coeffs-high_ghost-requires
 high_ghost_coeffs-high_ghost-requires c =
-    let axes = c.args.self.axes in
+    let axes = c.args.self.joined.axes in
     let four : length axes.dims ≡ 4 = omega (arith, c.well_formed) in
-    knots-long axes.count axes.dims four axes.usable c.args.a (rw (axes-are axes.count axes.dims four axes.usable) at c.requires) c.args.self.knots.now c.args.self.joined c.axis_knots-grid.ensures
+    knots-long axes.count axes.dims four axes.usable c.args.a (rw (axes-are axes.count axes.dims four axes.usable) at c.requires) c.args.self.joined.knots.now c.args.self.joined.as_many c.along-grid.ensures
 
 pub invariant_of-result : goal.invariant_of-result
 invariant_of-result c =
-    let axes = c.args.self.axes in
+    let axes = c.args.self.joined.axes in
     let four : length axes.dims ≡ 4 = omega (arith, c.well_formed) in
     record {
-      four = knots-long axes.count axes.dims four axes.usable c.args.a (rw (axes-are axes.count axes.dims four axes.usable) at c.requires) c.args.self.knots.now c.args.self.joined c.axis_knots-grid.ensures;
+      four = knots-long axes.count axes.dims four axes.usable c.args.a (rw (axes-are axes.count axes.dims four axes.usable) at c.requires) c.args.self.joined.knots.now c.args.self.joined.as_many c.along-grid.ensures;
     }
 
 pub returns : goal.returns
-returns c = system-is binary64 _ _ _ c.axis_knots-grid.ensures c.low_ghost_coeffs-low_ghost.ensures c.high_ghost_coeffs-high_ghost.ensures
+returns c = system-is binary64 _ _ _ c.along-grid.ensures c.low_ghost_coeffs-low_ghost.ensures c.high_ghost_coeffs-high_ghost.ensures
