@@ -83,7 +83,8 @@ pub fn weights_between(u: [f64; 6], x: f64) -> [f64; 4]
     cubic(x - u[2], x - u[1], x - u[0], u[3] - x, u[4] - x, u[5] - x)
 }
 
-// Each knot goes straight into its difference: an array of six in between would go through memory.
+// Each knot goes straight into its difference. As `weights_between` of `span_knots` it is slower, since the six go through memory:
+// the fit of a line of 4096 knots took 186 µs in place of 91.
 pub fn basis_span_weights(grid: &[f64], span: usize, x: f64) -> [f64; 4]
     requires { (4 ≤ length grid.now) × (span + 1 < length grid.now) }
     ensures { result ≡ basis_span_weights binary64 grid.now span x }
@@ -98,7 +99,8 @@ pub fn basis_span_weights(grid: &[f64], span: usize, x: f64) -> [f64; 4]
     )
 }
 
-// The same where all six knots are knots of the grid.
+// The same where all six knots are knots of the grid, with no test of where they are. A closure that gives a knot, for one function
+// of both, would need a contract longer than this.
 pub fn inner_weights(grid: &[f64], span: usize, x: f64) -> [f64; 4]
     requires { (2 ≤ span) × (span + 3 < length grid.now) }
     ensures { result ≡ basis_span_weights binary64 grid.now span x }
