@@ -10,6 +10,7 @@ pub fn read_full<R: Read>(from: &mut R, buffer: &mut [u8]) -> usize
     ensures { result ≤ length buffer.new }
 {
     let mut done = 0;
+    // a read hands over as many bytes as it likes: there is no step for an iterator
     while done < buffer.len() {
         match from.read(&mut buffer[done..]) {
             Ok(0) | Err(_) => break,

@@ -52,6 +52,7 @@ fn read_lengths(mut fields: Fields<'_>) -> Option<Lengths>
 {
     let count = decimal(fields.next()?)? as usize;
     let mut dims = [0usize; 4];
+    // as many as were counted, which may be more than are kept: an iterator over `dims` would leave the others unread
     for k in 0..count {
         store(&mut dims, k, decimal(fields.next()?)? as usize);
     }

@@ -17,6 +17,7 @@ impl Page {
         self.extend(&digits[..count]);
     }
 
+    // By the cases of `width_of`: a loop over the powers of ten would have a fact to keep for each, and is no shorter.
     fn put_count(&mut self, n: u64)
         requires { (length self.old + 5 ≤ 98440) × (n < 100000) }
         ensures { Wrote self.old (count_text n) self.new }
@@ -64,7 +65,7 @@ impl Page {
         self.push(b',');
     }
 
-    // A line of a letter and a number of one digit.
+    // A line of a letter and a number of one digit: of a refusal the number is what is printed.
     fn put_number(&mut self, letter: u8, number: u64)
         requires { (length self.old + 4 ≤ 98440) × (number < 10) }
         ensures { Wrote self.old (letter ∷ 44 ∷ (48 + number) ∷ 10 ∷ []) self.new }

@@ -6,7 +6,10 @@ use native.Mathlib.Omega.{arith}
 use lib.ListN.{length, take}
 use lib.Ieee.{Float, binary64}
 use borrow.Author.Tests.{eq-eqb, ne_eqb}
-use Rattle.shape.specs.Refusal.{refusal_number}
+use Rattle.std.proofs.Common.{rules}
+use Rattle.std.specs.Prelude.{Result, Ok, Err, IfOk}
+use Rattle.multibspline.specs.Numbers.{f0}
+use Rattle.shape.specs.Refusal.{refusal_number, answer_number, answer_or}
 use Rattle.shape.specs.declared.answers.Refusal.{Refusal}
 use Rattle.shape.specs.Checks.{first_refusal}
 use Rattle.shape.proofs.Accepted.{refusal-suc}
@@ -58,3 +61,14 @@ pub rectilinear-asked : (m : RectilinearMap) (grid coefs x : List Float) (value 
 rectilinear-asked m grid coefs x value h =
     let w = one-accepted (rectilinear binary64 m grid coefs) (Rectilinear.numbered m.count m.lens grid (length coefs)) x (sym h.answers) in
     (map-grid m.count m.lens grid (length coefs) w.0, w.1)
+
+-- the same of whatever the query answers
+pub regular-accepted : (m : RegularMap) (coefs x : List Float) (r : Result Float Refusal) → OneValue (regular binary64 m coefs) x (answer_number r) (answer_or f0 r)
+    → IfOk r (λ v. (first_refusal (record_checks m.count m.lens m.steps) ≡ 0) × (length x ≡ m.count))
+regular-accepted m coefs x (Ok value) h = regular-asked m coefs x value h
+regular-accepted m coefs x (Err refusal) h = search rules
+
+pub rectilinear-accepted : (m : RectilinearMap) (grid coefs x : List Float) (r : Result Float Refusal) → OneValue (rectilinear binary64 m grid coefs) x (answer_number r) (answer_or f0 r)
+    → IfOk r (λ v. (first_refusal (grid_checks m.count m.lens grid) ≡ 0) × (length x ≡ m.count))
+rectilinear-accepted m grid coefs x (Ok value) h = rectilinear-asked m grid coefs x value h
+rectilinear-accepted m grid coefs x (Err refusal) h = search rules

@@ -28,6 +28,10 @@ regular_axis_outside f lens starts steps x a = is_outside_loc (Regular.loc_at f 
 unfoldable pub rectilinear_axis_outside : ℕ → List ℕ → List Float → List Float → ℕ → Bool
 rectilinear_axis_outside count lens grid x a = is_outside (Rectilinear.loc_at count lens grid a (get_or x a nan)).sat
 
+-- an axis of a map on either grid, by what it says of a coordinate
+abbrev pub axis_outside : (ℕ → Float → Bool) → List Float → ℕ → Bool
+axis_outside on x a = on a (get_or x a nan)
+
 -- the query
 abbrev pub regular_outside : Format → ℕ → List ℕ → List Float → List Float → List Float → Bool
 regular_outside f count lens starts steps x = any_below (regular_axis_outside f lens starts steps x) count

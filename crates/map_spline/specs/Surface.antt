@@ -19,7 +19,8 @@ use Rattle.rectilinear_map.specs.Records as RectilinearRecord
 use Rattle.rectilinear_blocks.specs.Map.{RectilinearMap}
 use Rattle.rectilinear_blocks.specs.Eval.{rectilinear}
 use Rattle.map_fields.specs.Head.{Head}
-use Rattle.map_spline.specs.Outside.{regular_outside, rectilinear_outside}
+use Rattle.shape.specs.Below.{any_below}
+use Rattle.map_spline.specs.Outside.{axis_outside, regular_outside, rectilinear_outside}
 use Rattle.shape.specs.Refusal.{refusal_number}
 use Rattle.shape.specs.declared.answers.Refusal.{Refusal}
 use Rattle.map_spline.specs.declared.build.Map.{Map}
@@ -31,6 +32,10 @@ pub record Surface : Type 0 where
   pub spline : Spline
   -- whether a query is outside
   pub outside : List Float → Bool
+
+-- by a spline, and what each of its axes says of a coordinate
+abbrev pub surface_by : Spline → (ℕ → Float → Bool) → Surface
+surface_by s on = record { spline = s; outside = λ x. any_below (axis_outside on x) s.axes }
 
 abbrev pub regular_surface : Format → RegularMap → List Float → Surface
 regular_surface f m coefs = record { spline = regular f m coefs; outside = regular_outside f m.count m.lens m.starts m.steps }

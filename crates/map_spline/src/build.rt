@@ -40,6 +40,8 @@ fn workspace() -> [f64; 1024]
     [0.0; 1024]
 }
 
+// One function a grid: each hands its record's building other parts of the row. A trait over the two would have these two bodies as
+// its instances, and nothing that is written once over it.
 fn make_regular(
     line: FirstLine,
     row: &[f64],

@@ -1,13 +1,11 @@
 // A query of the map.
-ghost use Rattle.std.specs.Float.{binary64};
-ghost use Rattle.regular_map.specs.Records as Regular;
-ghost use Rattle.rectilinear_map.specs.Records as Rectilinear;
-ghost use Rattle.map_spline.specs.Surface.{regular_surface, rectilinear_surface, surface_in, Replied};
+ghost use Rattle.std.specs.Prelude.{◌≡◌, length};
+ghost use Rattle.shape.specs.Below.{any_below};
+ghost use Rattle.map_spline.specs.Outside.{axis_outside};
+ghost use Rattle.map_spline.specs.Surface.{surface_by, surface_in, Replied};
 
+use crate::asked::{Asked, OnRectilinear, OnRegular};
 use crate::build::Map;
-use crate::outside::{rectilinear_outside, regular_outside};
-use rectilinear_map::MultiBsplineRectilinear;
-use regular_map::MultiBsplineRegular;
 use shape::Refusal;
 
 // What an accepted query answers: the value, the gradient, and whether it counts as outside.
@@ -18,30 +16,25 @@ pub struct Reply {
     pub parts: [f64; 4],
 }
 
-fn ask_regular(map: MultiBsplineRegular, coeffs: &[f64], x: &[f64]) -> Result<Reply, Refusal>
-    ensures { Replied (regular_surface binary64 (Regular.map_of map) coeffs.now) x.now result }
+// Whether a query is outside: some axis has an Outside place for it.
+fn is_outside<M: Asked>(map: &M, x: &[f64]) -> bool
+    requires { M.Accepted map.now × (length x.now ≡ (M.spline map.now).axes) }
+    ensures { result ≡ any_below (axis_outside (M.outside_on map.now) x.now) (M.spline map.now).axes }
 {
-    let value = map.interp_one(coeffs, x)?;
-    let parts = map.interp_one_grad(coeffs, x)?;
-    let outside = regular_outside(map, x);
-    Ok(Reply {
-        value,
-        outside,
-        parts,
-    })
+    for (a, y) in x.iter().enumerate() {
+        if map.is_outside_on(a, *y) {
+            return true;
+        }
+    }
+    false
 }
 
-fn ask_rectilinear(
-    map: MultiBsplineRectilinear,
-    grid: &[f64],
-    coeffs: &[f64],
-    x: &[f64],
-) -> Result<Reply, Refusal>
-    ensures { Replied (rectilinear_surface binary64 (Rectilinear.map_of map) grid.now coeffs.now) x.now result }
+fn ask<M: Asked>(map: &M, x: &[f64]) -> Result<Reply, Refusal>
+    ensures { Replied (surface_by (M.spline map.now) (M.outside_on map.now)) x.now result }
 {
-    let value = map.interp_one(grid, coeffs, x)?;
-    let parts = map.interp_one_grad(grid, coeffs, x)?;
-    let outside = rectilinear_outside(map, grid, x);
+    let value = map.value(x)?;
+    let parts = map.gradient(x)?;
+    let outside = is_outside(map, x);
     Ok(Reply {
         value,
         outside,
@@ -62,9 +55,13 @@ impl<'a> FittedMap<'a> {
     pub fn ask(&self, x: &[f64]) -> Result<Reply, Refusal>
         ensures { Replied (surface_in self.now) x.now result }
     {
+        let coeffs = self.coeffs;
         match self.map {
-            Map::Regular(map) => ask_regular(map, self.coeffs, x),
-            Map::Rectilinear(map) => ask_rectilinear(map, self.row, self.coeffs, x),
+            Map::Regular(map) => ask(&OnRegular { map, coeffs }, x),
+            Map::Rectilinear(map) => {
+                let grid = self.row;
+                ask(&OnRectilinear { map, grid, coeffs }, x)
+            }
         }
     }
 }

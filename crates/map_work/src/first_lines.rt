@@ -16,19 +16,52 @@ use map_print::Page;
 use map_spline::FittedMap;
 use shape::{Refusal, Shape};
 
-// The map, and the queries, in coefficients of its size.
-fn fitted_in(
-    lines: Lines<'_>,
+// Line 1, where its shape is accepted within the program's limit.
+#[derive(Clone, Copy)]
+struct ShapedLine {
     line: FirstLine,
-    row: &[f64],
-    samples: &[f64],
-    coeffs: &mut [f64],
-    page: &mut Page,
-)
-    requires shaped { Shaped line × (length row.now ≡ row_length (head_of line)) × (length samples.now ≡ size (head_of line).dims) × (length coeffs.old ≡ size (head_of line).dims) }
-    requires ready { Ready lines line.count (length page.old + 4) }
-    ensures { Wrote page.old (fitted (head_of line) row.now samples.now lines.entry) page.new }
+    ghost shaped: { Shaped line },
+}
+
+impl ShapedLine {
+    // How many floats line 2 has.
+    fn row_len(self) -> usize
+        ensures floats { result ≡ row_length (head_of self.line) }
+        ensures few { result ≤ 512 }
+    {
+        let line = self.line;
+        if line.regular {
+            return 2 * line.count;
+        }
+        let dims = line.dims;
+        knots::grid_len(line.count, dims)
+    }
+
+    // How many line 3 has.
+    fn points(self) -> usize
+        ensures { result ≡ size (head_of self.line).dims }
+    {
+        let line = self.line;
+        let dims = line.dims;
+        let shape = Shape {
+            count: line.count,
+            dims: dims,
+        };
+        shape.coeff_storage_len()
+    }
+}
+
+// The map, and the queries. That there is room for what is still to print is a fact of the lines left and the page together; no
+// struct has the two, so here and below it is required of both.
+fn fitted(lines: Lines<'_>, shaped: ShapedLine, row: &[f64], samples: &[f64], page: &mut Page)
+    requires lengths { (length row.now ≡ row_length (head_of shaped.line)) × (length samples.now ≡ size (head_of shaped.line).dims) }
+    requires ready { Ready lines shaped.line.count (length page.old + 4) }
+    ensures { Wrote page.old (fitted (head_of shaped.line) row.now samples.now lines.entry) page.new }
 {
+    let line = shaped.line;
+    let n = samples.len();
+    let mut coeffs = [0.0f64; 512];
+    let coeffs = &mut coeffs[..n];
     match map_spline::make(line, row, samples, coeffs) {
         Ok(map) => {
             page.put_map(0);
@@ -38,89 +71,33 @@ fn fitted_in(
     }
 }
 
-// The same in coefficients of its own.
-fn fitted(lines: Lines<'_>, line: FirstLine, row: &[f64], samples: &[f64], page: &mut Page)
-    requires shaped { Shaped line × (length row.now ≡ row_length (head_of line)) × (length samples.now ≡ size (head_of line).dims) }
-    requires ready { Ready lines line.count (length page.old + 4) }
-    ensures { Wrote page.old (fitted (head_of line) row.now samples.now lines.entry) page.new }
+// From line 3 on: as many samples as the map has points.
+fn third(mut lines: Lines<'_>, shaped: ShapedLine, row: &[f64], page: &mut Page)
+    requires row_length { length row.now ≡ row_length (head_of shaped.line) }
+    requires ready { Ready lines shaped.line.count (length page.old + 4) }
+    ensures { Wrote page.old (third (head_of shaped.line) row.now lines.entry) page.new }
 {
-    let n = samples.len();
-    let mut coeffs = [0.0f64; 512];
-    fitted_in(lines, line, row, samples, &mut coeffs[..n], page);
-}
-
-// From line 3 on, in as many samples as the map has points.
-fn third_in(
-    mut lines: Lines<'_>,
-    line: FirstLine,
-    row: &[f64],
-    samples: &mut [f64],
-    page: &mut Page,
-)
-    requires shaped { Shaped line × (length row.now ≡ row_length (head_of line)) × (length samples.old ≡ size (head_of line).dims) }
-    requires ready { Ready lines line.count (length page.old + 4) }
-    ensures { Wrote page.old (third (head_of line) row.now lines.entry) page.new }
-{
+    let n = shaped.points();
+    let mut samples = [0.0f64; 512];
+    let samples = &mut samples[..n];
     match map_fields::read_row(&mut lines, samples) {
-        Some(()) => fitted(lines, line, row, samples, page),
+        Some(()) => fitted(lines, shaped, row, samples, page),
         None => page.put_unreadable(3),
     }
 }
 
-fn points(line: FirstLine) -> usize
-    requires { Shaped line }
-    ensures { result ≡ size (head_of line).dims }
+// From line 2 on.
+fn second(mut lines: Lines<'_>, shaped: ShapedLine, page: &mut Page)
+    requires { Ready lines shaped.line.count (length page.old + 4) }
+    ensures { Wrote page.old (second (head_of shaped.line) lines.entry) page.new }
 {
-    let dims = line.dims;
-    let shape = Shape {
-        count: line.count,
-        dims: dims,
-    };
-    shape.coeff_storage_len()
-}
-
-fn third(lines: Lines<'_>, line: FirstLine, row: &[f64], page: &mut Page)
-    requires shaped { Shaped line × (length row.now ≡ row_length (head_of line)) }
-    requires ready { Ready lines line.count (length page.old + 4) }
-    ensures { Wrote page.old (third (head_of line) row.now lines.entry) page.new }
-{
-    let n = points(line);
-    let mut samples = [0.0f64; 512];
-    third_in(lines, line, row, &mut samples[..n], page);
-}
-
-// From line 2 on, in as many floats as that line is to have.
-fn second_in(mut lines: Lines<'_>, line: FirstLine, row: &mut [f64], page: &mut Page)
-    requires shaped { Shaped line × (length row.old ≡ row_length (head_of line)) }
-    requires ready { Ready lines line.count (length page.old + 4) }
-    ensures { Wrote page.old (second (head_of line) lines.entry) page.new }
-{
+    let n = shaped.row_len();
+    let mut row = [0.0f64; 512];
+    let row = &mut row[..n];
     match map_fields::read_row(&mut lines, row) {
-        Some(()) => third(lines, line, row, page),
+        Some(()) => third(lines, shaped, row, page),
         None => page.put_unreadable(2),
     }
-}
-
-// How many floats line 2 has.
-fn row_len(line: FirstLine) -> usize
-    requires { Shaped line }
-    ensures { result ≡ row_length (head_of line) }
-{
-    if line.regular {
-        return 2 * line.count;
-    }
-    let dims = line.dims;
-    knots::grid_len(line.count, dims)
-}
-
-fn second(lines: Lines<'_>, line: FirstLine, page: &mut Page)
-    requires shaped { Shaped line }
-    requires ready { Ready lines line.count (length page.old + 4) }
-    ensures { Wrote page.old (second (head_of line) lines.entry) page.new }
-{
-    let n = row_len(line);
-    let mut row = [0.0f64; 512];
-    second_in(lines, line, &mut row[..n], page);
 }
 
 // Whether the shape is accepted, within the program's limit. That an array of four has four entries is known where it is a
@@ -145,7 +122,7 @@ fn shaped(lines: Lines<'_>, line: FirstLine, page: &mut Page)
 {
     let dims = line.dims;
     match check_shape(line.count, dims) {
-        Ok(()) => second(lines, line, page),
+        Ok(()) => second(lines, ShapedLine { line }, page),
         Err(refusal) => page.put_map(refusal.number()),
     }
 }
@@ -165,7 +142,8 @@ pub fn work_on(input: &[u8], spare: &[u8], page: &mut Page)
     ensures { page.new ≡ program (input.now ++ spare.now) }
 {
     page.clear();
-    if spare.len() > 0 {
+    let is_too_long = spare.len() > 0;
+    if is_too_long {
         page.put_unreadable(0);
         return;
     }

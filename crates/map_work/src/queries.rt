@@ -35,22 +35,15 @@ fn answer(map: &FittedMap<'_>, x: &[f64], page: &mut Page) -> bool
     }
 }
 
-// One query line, of as many floats as `x` holds: whether the query counts as outside, where the line can be read.
-fn ask_in(line: &[u8], map: &FittedMap<'_>, x: &mut [f64], page: &mut Page) -> Option<bool>
-    requires { (length x.old ≡ (surface_in map.now).spline.axes) × (length x.old ≤ 4) × (length page.old + 89 ≤ 98440) }
-    ensures { Asked line.now (surface_in map.now) page.old result page.new }
-{
-    map_fields::read_floats(line, x)?;
-    Some(answer(map, x, page))
-}
-
-// The same on `count` axes.
+// One query line, of `count` floats: whether the query counts as outside, where the line can be read.
 fn ask_line(line: &[u8], count: usize, map: &FittedMap<'_>, page: &mut Page) -> Option<bool>
     requires { (count ≡ (surface_in map.now).spline.axes) × (count ≤ 4) × (length page.old + 89 ≤ 98440) }
     ensures { Asked line.now (surface_in map.now) page.old result page.new }
 {
     let mut x = [0.0f64; 4];
-    ask_in(line, map, &mut x[..count], page)
+    let x = &mut x[..count];
+    map_fields::read_floats(line, x)?;
+    Some(answer(map, x, page))
 }
 
 // The queries, and the last line.

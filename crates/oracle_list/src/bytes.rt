@@ -1,15 +1,8 @@
-// Bytes of buffers: what they hold before a call, and how they compare after it.
+// Bytes of buffers against the words of a record.
 ghost use Rattle.std.specs.Prelude.{◌≡◌, true, ◌≤◌, length};
 ghost use Rattle.oracle_list.specs.Agree.{BytesAgree};
 
 use crate::words::is_number;
-
-// Whether two texts are equal, in their bytes and in their lengths.
-pub fn same_bytes(a: &[u8], b: &[u8]) -> bool
-    ensures { result ≡ true → a.now ≡ b.now }
-{
-    a == b
-}
 
 // Whether byte i is word `first + i * step`, for each byte.
 pub fn bytes_agree(text: &[u8], first: usize, step: usize, bytes: &[u8]) -> bool

@@ -1,14 +1,12 @@
-// What a replayed call answered and left, against its record: a fit, a batch, a single query, a list of line calls, a text.
+// What a replayed call answered and left, against its record: a fit, a batch, a single query, a list of line calls.
 #![tactic(auto)]
 
 mod batches;
 mod fits;
 mod lists;
 mod queries;
-mod texts;
 
 pub use batches::{BatchPlace, batch_agrees};
 pub use fits::fit_agrees;
 pub use lists::{is_kept, list_agrees};
-pub use queries::query_agrees;
-pub use texts::is_text;
+pub use queries::{QueryPlace, query_agrees};

@@ -2,13 +2,13 @@
 ghost use Rattle.std.specs.Prelude.{◌≡◌, true, ◌≤◌, length};
 ghost use Rattle.oracle_match.specs.Lists.{Kept, ListLeft};
 
-use oracle_list::{Filling, Test, bytes_agree, cells_agree, is_filled, same_bytes, same_cells};
+use oracle_list::{Filling, Test, bytes_agree, cells_agree, is_filled, same_cells};
 
 // Whether a refused call left all that it was lent as it was: coefficients and ledger as they were kept, and scratch as filled.
 pub fn is_kept(coeffs: &[f64], kept: &[f64], ledger: &[u8], saved: &[u8], scratch: &[f64]) -> bool
     ensures { result ≡ true → Kept coeffs.now kept.now ledger.now saved.now scratch.now }
 {
-    same_cells(coeffs, kept) && same_bytes(ledger, saved) && is_filled(Filling::scratch(), scratch)
+    same_cells(coeffs, kept) && ledger == saved && is_filled(Filling::scratch(), scratch)
 }
 
 // A list: its answers, coefficients and ledger, from word `first` on.

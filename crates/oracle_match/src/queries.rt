@@ -18,26 +18,30 @@ fn parts_agree(text: &[u8], at: usize, n: usize, count: usize, parts: [f64; 4]) 
     true
 }
 
-// Query i of n, on `count` axes: the numbers of both its answers against word `first + i`, its value against the word n further
-// on, its gradient from the word n further on. A refusal's number and a 0 stand beside one another here, as they do in the list.
+// Where the words of a query stand, which is one of n, on `count` axes: those of its value and its gradient are n apart, from word
+// `at` on.
+#[derive(Clone, Copy)]
+pub struct QueryPlace {
+    pub at: usize,
+    pub n: usize,
+    pub count: usize,
+    ghost near: { at ≤ 16384 },
+    ghost few_queries: { n ≤ 1024 },
+}
+
+// A query: the numbers of both its answers against word `at`, its value against the word n further on, its gradient from the word
+// n further on. A refusal's number and a 0 stand beside one another here, as they do in the list.
 pub fn query_agrees(
     text: &[u8],
-    first: usize,
-    n: usize,
-    i: usize,
-    count: usize,
-    valued: u64,
-    value: f64,
-    sloped: u64,
-    parts: [f64; 4],
+    place: QueryPlace,
+    valued: (u64, f64),
+    sloped: (u64, [f64; 4]),
 ) -> bool
-    requires { (first ≤ 8192) × (n ≤ 1024) × (i ≤ 1024) }
-    ensures { result ≡ true → QueryAnswered text.now (first + i) n count valued value sloped parts }
+    ensures { result ≡ true → QueryAnswered text.now place.at place.n place.count valued.0 valued.1 sloped.0 sloped.1 }
 {
-    let at = first + i;
-    let second = at + n;
-    is_number(text, at, valued)
-        && is_number(text, at, sloped)
-        && cell_agrees(Test::Same, text, second, value)
-        && parts_agree(text, second + n, n, count, parts)
+    let second = place.at + place.n;
+    is_number(text, place.at, valued.0)
+        && is_number(text, place.at, sloped.0)
+        && cell_agrees(Test::Same, text, second, valued.1)
+        && parts_agree(text, second + place.n, place.n, place.count, sloped.1)
 }

@@ -8,7 +8,8 @@ use std::fs::File;
 use std::rt::Files;
 use std::{fs, io};
 
-// A list with more records than this is not read to its end, and so counts as unreadable.
+// A list with more records than this is not read to its end, and so counts as unreadable. No iterator ends where a file does, and
+// a loop with no such bound is not known to end.
 const MOST_RECORDS: u64 = 1000000;
 
 // Reads the next record of a list and replays it: what `replay` answers of some record, or None where the list has no more.

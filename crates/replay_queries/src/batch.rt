@@ -4,7 +4,7 @@ ghost use Rattle.oracle_match.specs.Batches.{BatchLeft};
 
 use crate::map::{Map, Rectilinear, Regular};
 use crate::ones::ask_all;
-use crate::record::{Queries, Sizes, is_answered};
+use crate::record::{Queries, Record, is_answered};
 use oracle_list::{Filling, array_of, filled, number_at, read_cells, size_at};
 use oracle_match::{BatchPlace, batch_agrees};
 use oracle_run::Grid;
@@ -60,17 +60,15 @@ fn is_built_right(text: &[u8], built: u64) -> bool {
     built == wanted || (may_be_coords && built == 0)
 }
 
-// A map that has been built with this answer: from word `first` on the record has what is expected of its queries.
+// A map that has been built with this answer.
 fn is_map_right<M: Map>(
     text: &[u8],
-    first: usize,
     queries: Queries,
     built: Result<(), Refusal>,
     map: &M,
     xs: &[f64],
-) -> bool
-    requires { first ≤ 4096 }
-{
+) -> bool {
+    let first = queries.first;
     let n = queries.n;
     let values = BatchPlace {
         at: 13,
@@ -87,11 +85,12 @@ fn is_map_right<M: Map>(
     is_built_right(text, answer_number(built))
         && is_batch_right(text, 11, values, |out| map.values(xs, out))
         && is_batch_right(text, 12, gradients, |out| map.gradients(xs, out))
-        && ask_all(text, first, queries, map, xs)
+        && ask_all(text, queries, map, xs)
 }
 
-// A record of these sizes: whether all is as it expects of these queries.
-pub fn replay(text: &[u8], grid: Grid, sizes: Sizes, queries: Queries) -> bool {
+// Whether all is as a record expects of these queries.
+pub fn replay(record: Record<'_>, queries: Queries) -> bool {
+    let Record { text, grid, sizes } = record;
     let end = sizes.floats();
     let mut floats: [f64; 3072] = array_of(0.0);
     read_cells(text, 17, &mut floats[..end]);
@@ -103,11 +102,11 @@ pub fn replay(text: &[u8], grid: Grid, sizes: Sizes, queries: Queries) -> bool {
     match grid {
         Grid::Regular => {
             let (built, map) = Regular::of(text, knots, coeffs);
-            is_map_right(text, 17 + end, queries, built, &map, xs)
+            is_map_right(text, queries, built, &map, xs)
         }
         Grid::Rectilinear => {
             let (built, map) = Rectilinear::of(text, knots, coeffs);
-            is_map_right(text, 17 + end, queries, built, &map, xs)
+            is_map_right(text, queries, built, &map, xs)
         }
     }
 }

@@ -8,7 +8,8 @@ use regular_map::MultiBsplineRegular;
 use shape::Refusal;
 use std::array;
 
-// A map of either grid, with what is lent beside it.
+// A map of either grid, with what is lent beside it. Each instance hands on to the methods of its record, which keep the Rust's
+// names and parameters.
 pub trait Map {
     // The batch of values.
     fn values(&self, xs: &[f64], out: &mut [f64]) -> Result<(), Refusal>;

@@ -3,10 +3,12 @@ ghost use Rattle.std.specs.Prelude.{◌≡◌, ◌<◌, ◌≤◌, length};
 
 use crate::map::{Map, float_of};
 use crate::record::Queries;
+use oracle_match::{QueryPlace, query_agrees};
 use shape::Refusal;
 use std::array;
 
-// The number of a refusal, 0 where there is none, beside what is answered, as in the list: zeros where there is nothing.
+// The number of a refusal, 0 where there is none, beside what is answered: the list has the two so, and zeros where there is
+// nothing.
 fn with_number<T: Copy>(answer: Result<T, Refusal>, none: T) -> (u64, T) {
     match answer {
         Ok(x) => (0, x),
@@ -23,25 +25,23 @@ fn point(xs: &[f64], n: usize, i: usize) -> [f64; 4]
 }
 
 // Query i: its value and its gradient.
-fn ask<M: Map>(text: &[u8], first: usize, queries: Queries, i: usize, map: &M, xs: &[f64]) -> bool
-    requires { (first ≤ 4096) × (i < queries.n) }
+fn ask<M: Map>(text: &[u8], queries: Queries, i: usize, map: &M, xs: &[f64]) -> bool
+    requires { i < queries.n }
 {
     let n = queries.n;
     let x = point(xs, n, i);
     let x = &x[..queries.count];
-    let (valued, value) = with_number(map.value(x), 0.0);
-    let (sloped, parts) = with_number(map.gradient(x), [0.0; 4]);
-    oracle_match::query_agrees(text, first, n, i, x.len(), valued, value, sloped, parts)
+    let place = QueryPlace {
+        at: queries.first + i,
+        n,
+        count: queries.count,
+    };
+    let valued = with_number(map.value(x), 0.0);
+    let sloped = with_number(map.gradient(x), [0.0; 4]);
+    query_agrees(text, place, valued, sloped)
 }
 
-// Every query: answers from word `first` on, then values, then gradients.
-pub fn ask_all<M: Map>(text: &[u8], first: usize, queries: Queries, map: &M, xs: &[f64]) -> bool
-    requires { first ≤ 4096 }
-{
-    for i in 0..queries.n {
-        if !ask(text, first, queries, i, map, xs) {
-            return false;
-        }
-    }
-    true
+// Every query.
+pub fn ask_all<M: Map>(text: &[u8], queries: Queries, map: &M, xs: &[f64]) -> bool {
+    (0..queries.n).all(|i| ask(text, queries, i, map, xs))
 }

@@ -6,13 +6,23 @@ use oracle_list::number_at;
 use oracle_run::{Grid, Replayed, Unreadable, check_words, length_at};
 use shape::Refusal;
 
-// The grid of a record of this kind; of each grid there are two kinds, with the Rust's answers and with some that only the papers
+// The kind of a record: its grid. Of each grid there are two numbers, with the Rust's answers and with some that only the papers
 // define.
-fn grid_of(kind: u64) -> Result<Grid, Unreadable> {
-    match kind {
-        4 | 5 => Ok(Grid::Regular),
-        8 | 9 => Ok(Grid::Rectilinear),
-        _ => Err(Unreadable),
+#[derive(Clone, Copy)]
+struct Kind {
+    grid: Grid,
+}
+
+impl TryFrom<u64> for Kind {
+    type Error = Unreadable;
+
+    fn try_from(number: u64) -> Result<Kind, Unreadable> {
+        let grid = match number {
+            4 | 5 => Grid::Regular,
+            8 | 9 => Grid::Rectilinear,
+            _ => return Err(Unreadable),
+        };
+        Ok(Kind { grid })
     }
 }
 
@@ -58,66 +68,81 @@ impl Sizes {
     }
 }
 
-// The n queries of a record, on `count` axes.
+// The n queries of a record, on `count` axes: from word `first` on it has what is expected of them.
 #[derive(Clone, Copy)]
 pub struct Queries {
+    pub first: usize,
     pub count: usize,
     pub n: usize,
+    ghost near: { first ≤ 4096 },
     ghost few_axes: { count ≤ 4 },
     ghost few_queries: { n ≤ 1024 },
 }
 
 impl Queries {
     // Those of a record that is refused as a whole.
-    fn none() -> Queries {
-        Queries { count: 0, n: 0 }
+    fn none(sizes: Sizes) -> Queries {
+        Queries {
+            first: 17 + sizes.floats(),
+            count: 0,
+            n: 0,
+        }
     }
 
-    // Those of any other record, which has so many coordinates.
-    fn of(text: &[u8], coords: usize) -> Result<Queries, Unreadable>
-        requires { coords ≤ 1024 }
-    {
+    // Those of any other record.
+    fn of(text: &[u8], sizes: Sizes) -> Result<Queries, Unreadable> {
         let count = length_at(text, 2, 4)?;
         if count == 0 {
             return Err(Unreadable);
         }
         Ok(Queries {
+            first: 17 + sizes.floats(),
             count,
-            n: coords / count,
+            n: sizes.coords / count,
         })
     }
 }
 
+// A record that has been read as far as its lengths.
+#[derive(Clone, Copy)]
+pub struct Record<'a> {
+    pub text: &'a [u8],
+    pub grid: Grid,
+    pub sizes: Sizes,
+}
+
 // A record whose queries are answered, one by one.
-fn replay_map(text: &[u8], grid: Grid, sizes: Sizes) -> Result<Replayed, Unreadable> {
-    let queries = Queries::of(text, sizes.coords)?;
+fn replay_map(record: Record<'_>) -> Result<Replayed, Unreadable> {
+    let queries = Queries::of(record.text, record.sizes)?;
     let n = queries.n;
-    check_words(text, 17 + sizes.floats() + n + n + sizes.coords)?;
+    check_words(record.text, queries.first + n + n + record.sizes.coords)?;
     Ok(Replayed {
         counts: [1, n as u64, 0],
-        is_same: batch::replay(text, grid, sizes, queries),
+        is_same: batch::replay(record, queries),
     })
 }
 
 // A record that is refused as a whole: no query is answered.
-fn replay_refusal(text: &[u8], grid: Grid, sizes: Sizes) -> Result<Replayed, Unreadable> {
-    check_words(text, 17 + sizes.floats())?;
+fn replay_refusal(record: Record<'_>) -> Result<Replayed, Unreadable> {
+    let queries = Queries::none(record.sizes);
+    check_words(record.text, queries.first)?;
     Ok(Replayed {
         counts: [0, 0, 1],
-        is_same: batch::replay(text, grid, sizes, Queries::none()),
+        is_same: batch::replay(record, queries),
     })
 }
 
 pub fn replay(text: &[u8]) -> Result<Replayed, Unreadable> {
-    let grid = grid_of(number_at(text, 0))?;
+    let Kind { grid } = Kind::try_from(number_at(text, 0))?;
     let flag = number_at(text, 7);
     let sizes = Sizes::of(text)?;
     if flag > 1 || (grid == Grid::Regular && sizes.grid != 8) {
         return Err(Unreadable);
     }
+    let record = Record { text, grid, sizes };
     if is_answered(text) {
-        replay_map(text, grid, sizes)
+        replay_map(record)
     } else {
-        replay_refusal(text, grid, sizes)
+        replay_refusal(record)
     }
 }

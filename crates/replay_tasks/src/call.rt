@@ -2,6 +2,7 @@
 ghost use Rattle.std.specs.Prelude.{◌≡◌, true, ◌≤◌, length};
 ghost use Rattle.oracle_match.specs.Lists.{ListLeft};
 
+use crate::record::Tasks;
 use shape::{Refusal, Shape};
 
 // What a stepwise fit keeps between its calls: coefficients and ledger.
@@ -14,16 +15,17 @@ pub struct State<'a> {
 }
 
 impl<'a> State<'a> {
-    // Whether it, and the answers of a list of at most 512 calls, are as the words from word `first` on say.
-    pub fn agrees(&self, text: &[u8], first: usize, told: &[u8]) -> bool
-        requires { (first ≤ 8192) × (length told.now ≤ 512) }
-        ensures { result ≡ true → ListLeft text.now first told.now self.now.coeffs.now self.now.ledger.now }
+    // Whether it, and the answers of a list of at most 512 calls, are as the record says.
+    pub fn agrees(&self, text: &[u8], tasks: Tasks, told: &[u8]) -> bool
+        requires { length told.now ≤ 512 }
+        ensures { result ≡ true → ListLeft text.now tasks.first told.now self.now.coeffs.now self.now.ledger.now }
     {
-        oracle_match::list_agrees(text, first, told, self.coeffs, self.ledger)
+        oracle_match::list_agrees(text, tasks.first, told, self.coeffs, self.ledger)
     }
 }
 
-// A stepwise fit: its begin, its line call, and its list of line calls.
+// A stepwise fit: its begin, its line call, and its list of line calls. Each instance hands on to its grid's functions of
+// `stepwise`, which are those that C calls.
 pub trait Stepwise {
     fn begin(&self, samples: &[f64], state: &mut State, scratch: &[f64]) -> Result<(), Refusal>;
 

@@ -5,12 +5,22 @@ use crate::run;
 use oracle_list::number_at;
 use oracle_run::{Grid, Replayed, Unreadable, check_words, length_at};
 
-// The grid of a record of this kind.
-fn grid_of(kind: u64) -> Result<Grid, Unreadable> {
-    match kind {
-        10 => Ok(Grid::Regular),
-        11 => Ok(Grid::Rectilinear),
-        _ => Err(Unreadable),
+// The kind of a record: its grid.
+#[derive(Clone, Copy)]
+struct Kind {
+    grid: Grid,
+}
+
+impl TryFrom<u64> for Kind {
+    type Error = Unreadable;
+
+    fn try_from(number: u64) -> Result<Kind, Unreadable> {
+        let grid = match number {
+            10 => Grid::Regular,
+            11 => Grid::Rectilinear,
+            _ => return Err(Unreadable),
+        };
+        Ok(Kind { grid })
     }
 }
 
@@ -66,40 +76,50 @@ pub struct Tasks {
     ghost few: { n ≤ 512 },
 }
 
+// A record that has been read as far as its lengths.
+#[derive(Clone, Copy)]
+pub struct Record<'a> {
+    pub text: &'a [u8],
+    pub grid: Grid,
+    pub sizes: Sizes,
+}
+
 // A record whose begin is refused: it has no tasks.
-fn replay_refusal(text: &[u8], grid: Grid, sizes: Sizes) -> Result<Replayed, Unreadable> {
-    if number_at(text, 13) != 0 {
+fn replay_refusal(record: Record<'_>) -> Result<Replayed, Unreadable> {
+    if number_at(record.text, 13) != 0 {
         return Err(Unreadable);
     }
-    check_words(text, 14 + sizes.floats())?;
+    check_words(record.text, 14 + record.sizes.floats())?;
     Ok(Replayed {
         counts: [0, 0, 1],
-        is_same: run::replay(text, grid, sizes, None),
+        is_same: run::replay(record, None),
     })
 }
 
 // A record whose begin is accepted: tasks, coefficients and ledger are no longer than the buffers.
-fn replay_accepted(text: &[u8], grid: Grid, sizes: Sizes) -> Result<Replayed, Unreadable> {
+fn replay_accepted(record: Record<'_>) -> Result<Replayed, Unreadable> {
+    let text = record.text;
     let n = length_at(text, 13, 512)?;
     let lengths = Lengths::of(text)?;
-    let first = 14 + sizes.floats();
+    let first = 14 + record.sizes.floats();
     check_words(text, first + n * 4 + lengths.coeffs + lengths.ledger)?;
     let tasks = Tasks { first, n, lengths };
     Ok(Replayed {
         counts: [1, n as u64, 0],
-        is_same: run::replay(text, grid, sizes, Some(tasks)),
+        is_same: run::replay(record, Some(tasks)),
     })
 }
 
 pub fn replay(text: &[u8]) -> Result<Replayed, Unreadable> {
-    let grid = grid_of(number_at(text, 0))?;
+    let Kind { grid } = Kind::try_from(number_at(text, 0))?;
     let sizes = Sizes::of(text)?;
     if grid == Grid::Regular && sizes.knots != 0 {
         return Err(Unreadable);
     }
+    let record = Record { text, grid, sizes };
     if number_at(text, 12) != 0 {
-        replay_refusal(text, grid, sizes)
+        replay_refusal(record)
     } else {
-        replay_accepted(text, grid, sizes)
+        replay_accepted(record)
     }
 }

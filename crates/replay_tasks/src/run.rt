@@ -4,7 +4,7 @@ ghost use Rattle.std.specs.Prelude.{◌≡◌, true, ◌≤◌, length};
 ghost use Rattle.oracle_match.specs.Lists.{ListLeft};
 
 use crate::call::{Rectilinear, Regular, State, Stepwise};
-use crate::record::{Lengths, Sizes, Tasks};
+use crate::record::{Lengths, Record, Tasks};
 use crate::steps::{answer_of, steps};
 use oracle_list::{Filling, array_of, every_fourth, filled, number_at, read_cells};
 use oracle_run::{Grid, length_at, shape_of};
@@ -41,10 +41,10 @@ fn is_refused<S: Stepwise>(
     }
 }
 
-// Begin, on scratch of length w, and the tasks by the line call: whether all is as the words from word `first` on say.
+// Begin, on scratch of length w, and the tasks by the line call: whether all is as the record says.
 fn by_lines<S: Stepwise>(
     text: &[u8],
-    first: usize,
+    tasks: Tasks,
     w: usize,
     fit: &S,
     samples: &[f64],
@@ -52,31 +52,32 @@ fn by_lines<S: Stepwise>(
     scratch: &mut [f64],
     told: &mut [u8],
 ) -> bool
-    requires { (first ≤ 8192) × (w ≤ length scratch.old) × (length told.old ≤ 512) }
-    ensures { result ≡ true → ListLeft text.now first told.new state.new.coeffs.now state.new.ledger.now }
+    requires { (w ≤ length scratch.old) × (length told.old ≤ 512) }
+    ensures { result ≡ true → ListLeft text.now tasks.first told.new state.new.coeffs.now state.new.ledger.now }
 {
     if let Err(_) = fit.begin(samples, state, &scratch[..w]) {
         return false;
     }
-    if steps(text, first, fit, state, scratch, told).is_err() {
+    if steps(text, tasks, fit, state, scratch, told).is_err() {
         return false;
     }
-    state.agrees(text, first, told)
+    state.agrees(text, tasks, told)
 }
 
-// The list by one call, on scratch of begin's length: whether all is as the words from word `first` on say.
+// The list by one call, on scratch of begin's length: whether all is as the record says.
 fn by_list<S: Stepwise>(
     text: &[u8],
-    first: usize,
+    tasks: Tasks,
     fit: &S,
     samples: &[f64],
     state: &mut State,
     scratch: &mut [f64],
     told: &mut [u8],
 ) -> bool
-    requires { (first ≤ 8192) × (length told.old ≤ 512) }
-    ensures { result ≡ true → ListLeft text.now first told.new state.new.coeffs.now state.new.ledger.now }
+    requires { length told.old ≤ 512 }
+    ensures { result ≡ true → ListLeft text.now tasks.first told.new state.new.coeffs.now state.new.ledger.now }
 {
+    let first = tasks.first;
     let n = told.len();
     let mut axes: [usize; 512] = array_of(0);
     every_fourth(text, first, &mut axes);
@@ -85,18 +86,13 @@ fn by_list<S: Stepwise>(
     if let Err(_) = fit.fit_by_list(samples, &axes[..n], &lines[..n], state, scratch, told) {
         return false;
     }
-    state.agrees(text, first, told)
+    state.agrees(text, tasks, told)
 }
 
 // Whether some call of the list is refused for its short scratch.
 fn has_short(text: &[u8], tasks: Tasks) -> bool {
     let short = Refusal::ScratchTooSmall.number();
-    for i in 0..tasks.n {
-        if number_at(text, tasks.first + i * 4 + 3) == short {
-            return true;
-        }
-    }
-    false
+    (0..tasks.n).any(|i| number_at(text, tasks.first + i * 4 + 3) == short)
 }
 
 // A record whose begin is refused.
@@ -117,15 +113,14 @@ fn is_list_right<S: Stepwise>(text: &[u8], tasks: Tasks, fit: &S, samples: &[f64
     let Ok(w) = length_at(text, 11, 1024) else {
         return false;
     };
-    let first = tasks.first;
     let n = tasks.n;
     let lines = on_fresh(
         tasks.lengths,
         |state, scratch|
-            requires { (first ≤ 8192) × (w ≤ 1024) × (n ≤ 512) }
+            requires { (w ≤ 1024) × (n ≤ 512) }
         {
             let mut told: [u8; 512] = array_of(170);
-            by_lines(text, first, w, fit, samples, state, scratch, &mut told[..n])
+            by_lines(text, tasks, w, fit, samples, state, scratch, &mut told[..n])
         },
     );
     if !lines || has_short(text, tasks) {
@@ -134,12 +129,12 @@ fn is_list_right<S: Stepwise>(text: &[u8], tasks: Tasks, fit: &S, samples: &[f64
     on_fresh(
         tasks.lengths,
         |state, scratch|
-            requires { (first ≤ 8192) × (w ≤ 1024) × (n ≤ 512) }
+            requires { (w ≤ 1024) × (n ≤ 512) }
         {
             let mut told: [u8; 512] = array_of(170);
             by_list(
                 text,
-                first,
+                tasks,
                 fit,
                 samples,
                 state,
@@ -158,8 +153,9 @@ fn is_right<S: Stepwise>(text: &[u8], tasks: Option<Tasks>, fit: &S, samples: &[
     }
 }
 
-// A record of these sizes: whether all is as it expects.
-pub fn replay(text: &[u8], grid: Grid, sizes: Sizes, tasks: Option<Tasks>) -> bool {
+// Whether all is as a record expects.
+pub fn replay(record: Record<'_>, tasks: Option<Tasks>) -> bool {
+    let Record { text, grid, sizes } = record;
     let end = sizes.floats();
     let mut floats: [f64; 2048] = array_of(0.0);
     read_cells(text, 14, &mut floats[..end]);

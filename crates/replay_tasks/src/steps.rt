@@ -2,6 +2,7 @@
 ghost use Rattle.std.specs.Prelude.{◌≡◌, ◌≤◌, length};
 
 use crate::call::{State, Stepwise};
+use crate::record::Tasks;
 use oracle_list::{Filling, array_of, copy_of, fill, size_at};
 use oracle_match::is_kept;
 use shape::Refusal;
@@ -61,19 +62,19 @@ fn step_at<S: Stepwise>(
     })
 }
 
-// Every task; the words of the first start at word `first`. Their answers go into `told`.
+// Every task. Their answers go into `told`.
 pub fn steps<S: Stepwise>(
     text: &[u8],
-    first: usize,
+    tasks: Tasks,
     fit: &S,
     state: &mut State,
     scratch: &mut [f64],
     told: &mut [u8],
 ) -> Result<(), Misstep>
-    requires { (first ≤ 8192) × (length told.old ≤ 512) }
+    requires { length told.old ≤ 512 }
 {
     for (i, byte) in told.iter_mut().enumerate() {
-        *byte = step_at(text, first + i * 4, fit, state, scratch)?;
+        *byte = step_at(text, tasks.first + i * 4, fit, state, scratch)?;
     }
     Ok(())
 }

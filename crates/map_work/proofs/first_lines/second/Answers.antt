@@ -1,17 +1,19 @@
 use native.Mathlib.Omega.{arith}
-use lib.ListN.{length-take}
-use lib.Seq.{length-take-le}
 use mathlib.Core.Path.{◌∙◌}
-use Rattle.map_work.proofs.FirstThree.{row_small}
+use lib.Seq.{length-take-le}
+use Rattle.map_work.proofs.FirstThree.{ready-next, row_read, row-unread}
 use Rattle.map_work.proofs.first_lines.second.Goals as goal
 
-pub slice_bounds-row-end : goal.slice_bounds-row-end
-slice_bounds-row-end c = omega (arith, c.row_len-n.ensures, row_small c.args.line c.requires.shaped)
+pub third-requires-clause-ready : goal.third-requires-clause-ready
+third-requires-clause-ready c = let r = c.in-Some.ensures in ready-next _ _ _ _ r.row r.after c.requires
 
-pub slice_bounds-second_in-end : goal.slice_bounds-second_in-end
-slice_bounds-second_in-end c = simp length-take (omega (arith, c.row_len-n.ensures, row_small c.args.line c.requires.shaped))
-
-pub second_in-requires-clause-shaped : goal.second_in-requires-clause-shaped
-second_in-requires-clause-shaped c =
+pub returns-in-Some : goal.returns-in-Some
+returns-in-Some c =
+    let r = c.in-Some.ensures in
     let n = c.row_len-n.ensures in
-    (c.requires.shaped, length-take-le _ _ (omega (arith, n, row_small c.args.line c.requires.shaped)) ∙ n)
+    row_read _ _ _ _ r.row r.after _ _ _ (length-take-le _ _ (omega (arith, n.few)) ∙ n.floats) c.third.ensures
+
+pub returns-in-None : goal.returns-in-None
+returns-in-None c =
+    let n = c.row_len-n.ensures in
+    row-unread _ _ _ c.in-None.ensures.row _ _ (length-take-le _ _ (omega (arith, n.few)) ∙ n.floats) c.put_unreadable.ensures
