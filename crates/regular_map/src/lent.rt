@@ -22,6 +22,8 @@ impl Lent for MultiBsplineRegular {
 
     ghost checks = { λ m coefs. map_checks m.count m.dims m.steps coefs };
 
+    // Compiled into each call: left as a call of its own, it adds a fifth to a third to a single value on one or two axes.
+    #[inline(always)]
     fn accept(self, coeffs: usize) -> Result<Grid, Refusal> {
         let MultiBsplineRegular {
             count,
