@@ -44,7 +44,7 @@ impl Lent for MultiBsplineRegular {
     }
 
     fn value_at(map: &Grid, coeffs: &[f64], x: &[f64]) -> Result<f64, Refusal> {
-        value_at(*map, coeffs, x)
+        value_at(map, coeffs, x)
     }
 
     fn no_place() -> Seat {
