@@ -2,10 +2,12 @@
 // axis are worked out only where the query lies at an end of it, and only those of that end.
 ghost use denote.Builtin.{usize};
 ghost use Rattle.std.specs.Mem.{type_size};
-ghost use Rattle.std.specs.Prelude.{◌≡◌, ◌*◌, ◌<◌, ◌^◌, true, ◌≤◌, length};
+ghost use Rattle.std.specs.Prelude.{◌≡◌, ◌+◌, ◌*◌, ◌<◌, ◌^◌, true, ◌≤◌, length};
 ghost use Rattle.std.specs.Float.{binary64};
 ghost use Rattle.knots.specs.Knots.{rises, count_below};
+ghost use Rattle.rectilinear_basis.specs.Basis.{basis_span_weights};
 ghost use Rattle.rectilinear_weights.specs.Ghosts.{low_ghost_coeffs, high_ghost_coeffs};
+ghost use Rattle.rectilinear_weights.specs.Weights.{low_boundary_weights, high_boundary_weights};
 ghost use Rattle.evaluation.specs.Granted.{Ready};
 ghost use Rattle.rectilinear_axis.specs.Axis.{place_weights, rectilinear_axis};
 ghost use Rattle.rectilinear_blocks.specs.Eval.{map_checks, rectilinear_axes};
@@ -17,7 +19,7 @@ use crate::build::looked_at;
 use evaluation::{Axis, Map, strides_of};
 use knots::{axis_knots, count_below, loc_of};
 use map_calls::Lent;
-use multibspline::Saturation;
+use multibspline::{AtPlace, by_place};
 use rectilinear_basis::basis_span_weights;
 use rectilinear_weights::{
     high_boundary_weights, high_ghost_coeffs, interp_weight_derivatives, low_boundary_weights,
@@ -25,24 +27,45 @@ use rectilinear_weights::{
 };
 use shape::{Refusal, Shape};
 
-// The weights at x, with c knots below it. The ends are asked for by name: a second caller of `interp_weights`, or of
-// `inner_weights`, slows the batches by some percent.
+// A query on an axis of knots, at a span of it: the ghost numbers of an end are worked out where the query lies at that end. The ends
+// are asked for by name: a second caller of `interp_weights`, or of `inner_weights`, slows the batches by some percent.
+#[derive(Clone, Copy)]
+struct OwnWeights<'a> {
+    knots: &'a [f64],
+    span: usize,
+    x: f64,
+    ghost four: { 4 ≤ length knots.now },
+    ghost inside: { span + 1 < length knots.now },
+}
+
+impl<'a> AtPlace for OwnWeights<'a> {
+    ghost inner = { λ q. basis_span_weights binary64 q.knots.now q.span q.x };
+
+    ghost low = { λ q straight. low_boundary_weights binary64 q.knots.now (low_ghost_coeffs binary64 q.knots.now) straight q.x };
+
+    ghost high = { λ q straight. high_boundary_weights binary64 q.knots.now (high_ghost_coeffs binary64 q.knots.now) straight q.x };
+
+    fn inner(self) -> [f64; 4] {
+        basis_span_weights(self.knots, self.span, self.x)
+    }
+
+    fn low(self, straight: bool) -> [f64; 4] {
+        low_boundary_weights(self.knots, self.x, straight, low_ghost_coeffs(self.knots))
+    }
+
+    fn high(self, straight: bool) -> [f64; 4] {
+        high_boundary_weights(self.knots, self.x, straight, high_ghost_coeffs(self.knots))
+    }
+}
+
+// The weights at x, with c knots below it.
 fn own_weights(knots: &[f64], linear: bool, c: usize, x: f64) -> [f64; 4]
     requires { (4 ≤ length knots.now) × (c ≡ count_below knots.now x) }
     ensures { result ≡ place_weights binary64 knots.now (low_ghost_coeffs binary64 knots.now) (high_ghost_coeffs binary64 knots.now) linear x }
 {
     let loc = loc_of(knots.len(), c);
     let span = loc.span;
-    let sat = loc.sat;
-    match sat {
-        Saturation::None => basis_span_weights(knots, span, x),
-        Saturation::InsideLow => low_boundary_weights(knots, x, false, low_ghost_coeffs(knots)),
-        Saturation::OutsideLow => low_boundary_weights(knots, x, linear, low_ghost_coeffs(knots)),
-        Saturation::InsideHigh => high_boundary_weights(knots, x, false, high_ghost_coeffs(knots)),
-        Saturation::OutsideHigh => {
-            high_boundary_weights(knots, x, linear, high_ghost_coeffs(knots))
-        }
-    }
+    by_place(OwnWeights { knots, span, x }, loc.sat, linear)
 }
 
 // An axis by its knots alone.
