@@ -33,13 +33,15 @@ def files(folder, suffix):
 
 SOURCES = files("src", ".rt")
 FUNCTION = re.compile(r"^ *(?:pub )?(?:unsafe )?(?:extern \"C\" )?fn (\w+)(<[^(]*>)?\(((?:[^()]|\([^()]*\))*)\)", re.M)
-Function = collections.namedtuple("Function", "file name params clauses body")
+INSTANCE = re.compile(r"^(?:pub )?(?:trait \w+|impl(?:<[^>]*>)? [^{\n]* for )[^{]*\{\n.*?^\}", re.M | re.S)
+Function = collections.namedtuple("Function", "file name params clauses body of_trait")
 
 
 def functions():
     out = []
     for name, text in SOURCES.items():
         bare = re.sub(r"//[^\n]*", "", text)
+        instances = [m.span() for m in INSTANCE.finditer(bare)]
         for m in FUNCTION.finditer(bare):
             rest = bare[m.end():]
             start = re.search(r"^ *\{\n|\{ *\}|^ *\{$| \{\n", rest, re.M)
@@ -52,7 +54,8 @@ def functions():
                     break
             body = rest[start.start():end] if start else ""
             params = [p.strip() for p in m.group(3).replace("\n", " ").split(",") if ":" in p]
-            out.append(Function(name, m.group(1), params, clauses, body))
+            of_trait = any(a <= m.start() < b for a, b in instances)
+            out.append(Function(name, m.group(1), params, clauses, body, of_trait))
     return out
 
 
@@ -93,10 +96,10 @@ def codes():
     return out
 
 
-def twins():
+def twins(functions=ALL):
     """Functions of one name in two crates or two files, slab and bundle, and families that end in a digit."""
     where = collections.defaultdict(set)
-    for f in ALL:
+    for f in functions:
         stem = re.sub(r"(^|_)(regular|rectilinear|slab|bundle|even|uneven|low|high|value|gradient|values|gradients|weights|slopes)(?=_|$)", r"\1*", f.name)
         stem = re.sub(r"_?\d$", "_#", stem)
         where[stem].add((f.file, f.name))
@@ -162,6 +165,7 @@ POINTS = [
     ("1a", "own enums and structs of the shape of Option or Result", enums),
     ("1b", "numbers for kinds", codes),
     ("2", "functions that have a twin", twins),
+    ("2b", "the same among functions of no trait and no instance of one", lambda: twins([f for f in ALL if not f.of_trait])),
     ("3a", "while loops", lambda: matches(r"^ *while .*$")),
     ("3b", "for loops over a range of indices", lambda: matches(r"^ *for \w+ in .*\.\..*$")),
     ("4", "equality, copying, conversion and printing by hand", by_hand),
