@@ -1,4 +1,6 @@
 // The counts of a run, and how they are printed.
+ghost use Rattle.std.specs.Prelude.{◌≡◌};
+
 use crate::record::Unreadable;
 use std::io;
 
@@ -19,12 +21,20 @@ pub enum Stop {
 }
 
 impl From<Unreadable> for Stop {
+    ghost use Rattle.oracle_run.specs.declared.tally.Stop.TheVariants.{Unreadable};
+
+    ghost from_gives = { λ _ stop. stop ≡ Unreadable };
+
     fn from(_: Unreadable) -> Stop {
         Stop::Unreadable
     }
 }
 
 impl From<io::Error> for Stop {
+    ghost use Rattle.oracle_run.specs.declared.tally.Stop.TheVariants.{Print};
+
+    ghost from_gives = { λ error stop. stop ≡ Print error };
+
     fn from(error: io::Error) -> Stop {
         Stop::Print(error)
     }
