@@ -1,18 +1,15 @@
 -- The value and the gradient of a query, by the sums over the axes before the last, axis j. Assumes nothing.
-use Rattle.std.proofs.Common.{◌≡◌, ◌∙◌, arith, List, [], ℕ, suc, ◌+◌, ◌*◌, ◌-◌, ◌≤◌, ◌<◌, length, get_or, set, get_or-set_same, get_or-set_other, inl, inr, Float}
+use Rattle.std.proofs.Common.{◌≡◌, ◌∙◌, arith, List, [], ℕ, suc, ◌-◌, ◌≤◌, ◌<◌, length, get_or, set, get_or-set_same, get_or-set_other, inl, inr, Float}
 use native.Mathlib.Nat.{eq-or-lt_of_le}
 use Rattle.std.specs.Float.{Format, nan}
 use Rattle.interp_math.specs.Sum.{dot4, summed, gradient_part}
-use Rattle.interp_math.specs.Table.{lanes, strides_over, turned, PartLanes}
-use Rattle.interp_math.proofs.Tables.{lanes_end, lanes-turned, part_end, own-end, strides-within}
+use Rattle.interp_math.specs.Table.{lanes, turned, PartLanes}
+use Rattle.interp_math.proofs.Tables.{lanes_end, lanes-turned, part_end, own-end}
 use Rattle.block_sums.specs.Sums.{Summable}
 
 module _ {coefs : List Float} {strides : List ℕ} {j first : ℕ} (w : Summable (suc j) strides coefs first) where
   pub last-one : get_or strides j 0 ≡ 1
   last-one = let e : suc j - 1 ≡ j = omega arith in rw e at w.last
-
-  pub sums-within : first + 3 * strides_over strides j + 3 < length coefs
-  sums-within = omega (arith, w.within, w.few, last-one, strides-within strides j (omega (arith, w.few)))
 
 module _ (f : Format) (coefs : List Float) (strides : List ℕ) (j first : ℕ) (w : Summable (suc j) strides coefs first) (weights : List (List Float)) where
   pub value-end : {table : List (List Float)} {sums : List Float} → table ≡ turned weights → sums ≡ lanes f coefs strides (turned table) j first → dot4 f (get_or weights j []) sums ≡ summed f coefs strides weights (suc j) first

@@ -1,7 +1,7 @@
 -- A block of queries axis after axis, on either grid: before any axis, and one axis more. Assumes nothing.
 use Rattle.std.proofs.Common.{◌≡◌, refl, sym, ap, ◌∙◌, true, false, Bool, ◌||◌, ◌⊎◌, inl, inr, List, [], ℕ, ◌+◌, ◌*◌, ◌≤◌, ◌<◌, length, get_or, take, set, Float, arith, add-one}
 use Rattle.std.specs.Float.{nan}
-use native.Mathlib.Nat.{eq-or-lt_of_le, mul-le-mul_right}
+use native.Mathlib.Nat.{eq-or-lt_of_le}
 use lib.ListN.{length-set}
 use lib.Seq.{get_or-set_same, get_or-set_other}
 use Rattle.shape.specs.Below.{any_below}
@@ -11,7 +11,7 @@ use Rattle.evaluation.specs.Axes.{query}
 use Rattle.evaluation.specs.Axis.{OneAxis, AxisOf}
 use Rattle.evaluation.specs.ByAxis.{ByAxis}
 use Rattle.evaluation.specs.Granted.{Ready}
-use Rattle.evaluation.specs.Stages.{no_spot, Coordinates, Placed, Weighs, Slopes, PlacedTo, RowsTo, LookedTo, Sloped}
+use Rattle.evaluation.specs.Stages.{no_spot, Coordinates, Placed, Weighs, Slopes, PlacedTo, RowsTo, LookedTo}
 use Rattle.evaluation.specs.declared.stages.Spot.{Spot}
 use Rattle.evaluation.proofs.Entries.{query-at, stride-at}
 use Rattle.evaluation.proofs.Reach.{first-none, first_next, below-start, below_next, below-small}
@@ -21,10 +21,6 @@ pub axis-cells : {count : ℕ} {lens ss : List ℕ} (a : ℕ) → Ready count le
 axis-cells {count} {lens} {ss} a r h =
     let u = r.shape in
     rw (stride-at a r h, ← points-are count lens r.four u a h) (room count lens r.four u a h).row_small
-
--- its coordinates are there
-pub coordinates-there : {count n xs : ℕ} (a from m : ℕ) → a < count → from + m ≤ n → count * n ≤ xs → a * n + from + m ≤ xs
-coordinates-there {n = n} a from m h inside whole = omega (arith, mul-le-mul_right n h)
 
 -- ---- the rows of a table
 
@@ -46,16 +42,6 @@ module _ {map : ByAxis} {x : List Float} {a : ℕ} {axis : OneAxis} (is : AxisOf
 
   pub slopes-next : Slopes axis a c old new → RowsTo (map.slopes x) a old.slopes → RowsTo (map.slopes x) (a + 1) new.slopes
   slopes-next put w = rows-next w put.four few (ap (λ (s : Spot). s.slopes) put.is) (ap axis.slopes e ∙ sym (is.slopes x))
-
-  -- of a gradient; over one axis the weights are not worked out
-  pub sloped-alone : map.count ≤ 1 → Slopes axis a c old new → Sloped map x a old → Sloped map x (a + 1) new
-  sloped-alone one put w = (slopes-next put w.0, λ more. absurd (let q : ⊥ = omega arith in q))
-
-pub sloped-next : {map : ByAxis} {x : List Float} {a : ℕ} {axis : OneAxis} → AxisOf map a axis → a < 4 → {c : Float} → c ≡ get_or x a nan → {old mid new : Spot} → Slopes axis a c old mid → Weighs axis a c mid new → Sloped map x a old → Sloped map x (a + 1) new
-sloped-next is few e put put' w = (
-  rw (← ap (λ (s : Spot). s.slopes) put'.is) at (slopes-next is few e put w.0),
-  λ more. weights-next is few e put' (rw (← ap (λ (s : Spot). s.weights) put.is) at (w.1 more)),
-)
 
 module _ (map : ByAxis) {ss : List ℕ} (ready : Ready map.count map.lens ss) where
   -- ---- one query

@@ -1,16 +1,11 @@
 -- A query of a batch, coordinate by coordinate. Assumes nothing.
 use mathlib.Core.Path.{◌≡◌, refl}
 use mathlib.Core.List.{List}
-use Prim.Native.Nat.{ℕ, zero, suc, ◌+◌, ◌*◌, ◌≤◌, ◌<◌}
-use native.Mathlib.Nat.{mul-le-mul_right}
+use Prim.Native.Nat.{ℕ, zero, suc, ◌+◌, ◌*◌, ◌<◌}
 use native.Mathlib.Omega.{arith}
 use lib.ListN.{get_or, set}
 use lib.Ieee.{Float, nan}
 use Rattle.evaluation.specs.Axes.{zeros, query}
-
--- the place of a coordinate is within the batch
-pub in-batch : (count n i a len : ℕ) → a < count → i < n → count * n ≤ len → a * n + i < len
-in-batch count n i a len h k fits = omega (arith, mul-le-mul_right n h)
 
 module _ (xs : List Float) (n i : ℕ) where
   -- one more axis

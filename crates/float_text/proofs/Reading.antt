@@ -1,8 +1,8 @@
 -- Digits are read one after the other. Assumes nothing.
-use mathlib.Core.Path.{◌≡◌, refl, sym, ◌∙◌}
+use mathlib.Core.Path.{◌≡◌, sym, ◌∙◌}
 use mathlib.Core.List.{List}
 use Prim.Native.Nat.{ℕ, ◌+◌, ◌*◌, ◌^◌, ◌≤◌, ◌<◌}
-use native.Mathlib.Nat.{pow-suc, pow-zero, pow-le-pow_right, le_trans, lt_of_lt_of_le}
+use native.Mathlib.Nat.{pow-suc, pow-le-pow_right, le_trans, lt_of_lt_of_le}
 use native.Mathlib.Numerals.{add-one}
 use native.Mathlib.Omega.{arith}
 use lib.Arith.{digits_lt}
@@ -16,9 +16,6 @@ pub record Reading (base : ℕ) (text : List ℕ) (n i : ℕ) : Type 0 where
   pub within : i ≤ length text
   pub below : n < base ^ i
   pub rest : number_from base 0 text ≡ number_from base n (drop i text)
-
-pub Reading-start : (base : ℕ) (text : List ℕ) → Reading base text 0 0
-Reading-start base text = record { within = omega arith; below = rw pow-zero (omega arith); rest = refl }
 
 module _ (base : ℕ) (text : List ℕ) (n i d : ℕ) (h : Reading base text n i) (l : i < length text) where
   pub Reading-below : d < base → n * base + d < base ^ (i + 1)

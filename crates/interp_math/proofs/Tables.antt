@@ -7,12 +7,11 @@ use native.Mathlib.Nat.{eq-or-lt_of_le, mul-le-mul_right}
 use native.Mathlib.Omega.{arith}
 use Rattle.std.proofs.Common.{add-one}
 use lib.ListN.{length, get_or, set, length-set}
-use lib.Seq.{get_or-set_same, get_or-set_other, get_or-take}
+use lib.Seq.{get_or-set_same, get_or-set_other}
 use lib.Ieee.{Float, nan, Format}
 use Rattle.interp_math.specs.Sum.{dot4, summed, gradient_part}
 use Rattle.interp_math.specs.Table.{lanes, strides_over, rows_of, column, turned, across, sloped, table_of, PartLanes}
 use Rattle.interp_math.proofs.Summed.{summed-ext, summed-dots}
-use Rattle.interp_math.proofs.Four.{four}
 
 -- the neighbours along an axis are at most three strides further
 pub near : (stride : ℕ) {p : ℕ} → p < 4 → p * stride ≤ 3 * stride
@@ -87,11 +86,6 @@ turn-row f table (suc (suc (suc (suc l)))) v h = absurd (omega (arith, h))
 pub lanes-none : (f : Format) (coefs : List Float) (strides : List ℕ) (weights : List (List Float)) (at : ℕ) → lanes f coefs [] [] 0 at ≡ lanes f coefs strides weights 0 at
 unfolding lanes summed
 lanes-none f coefs strides weights at = refl
-
--- the coefficients themselves, four rows along axis 0
-pub patch-rows : (f : Format) (coefs : List Float) (strides : List ℕ) (weights : List (List Float)) (s at : ℕ) {table : List (List Float)} → table ≡ rows_of (λ p. lanes f coefs [] [] 0 (at + p * s))
-    → RowsTo (λ p. lanes f coefs strides weights 0 (at + p * s)) table 4
-patch-rows f coefs strides weights s at e = rows_as (rows_all e) (λ k. lanes-none f coefs strides weights (at + k * s))
 
 module _ (f : Format) (coefs : List Float) (strides : List ℕ) where
   -- they look at the weights of their own axes alone

@@ -1,7 +1,7 @@
 -- The table of partial sums: the sums at four neighbours along the last axis stand side by side in a row, and the rows at four
 -- neighbours along axis j make the row over one axis more. For contracts inside the library. Assumes nothing.
 --     strides, weights, slopes    an entry for each axis, axis 0 first
-use Rattle.std.specs.Prelude.{◌≡◌, ◌≤◌, List, [], ◌∷◌, ℕ, zero, suc, ◌+◌, get_or, set, take, Float}
+use Rattle.std.specs.Prelude.{◌≡◌, ◌≤◌, List, [], ◌∷◌, ℕ, zero, suc, ◌+◌, get_or, set, Float}
 use Rattle.std.specs.Float.{nan, Format}
 use Rattle.interp_math.specs.Sum.{dot4, summed}
 

@@ -1,15 +1,14 @@
 -- Laws of the count of knots below a query, and what a search by quarters keeps. Assumes nothing.
 use mathlib.Core.Path.{◌≡◌, refl, sym, ◌∙◌}
-use mathlib.Core.Logic.{inl, inr, ◌⊎◌}
+use mathlib.Core.Logic.{inl, inr}
 use mathlib.Core.Bool.{Bool, true, false, cond}
 use mathlib.Core.List.{List, [], ◌∷◌}
 use Prim.Native.Nat.{ℕ, zero, suc, ◌+◌, ◌-◌, ◌*◌, ◌≤◌, ◌<◌}
 use native.Mathlib.Nat.{eq-or-lt_of_le}
 use native.Mathlib.Omega.{arith}
-use lib.Dec.{leb}
 use lib.ListN.{length, get_or}
-use borrow.Author.Tests.{leb-true, leb-false}
 use lib.Ieee.{Float, nan, inf, fin, lt}
+use Rattle.shape.proofs.Cells.{lt-or-ge}
 use Rattle.knots.specs.Knots.{rises, count_below}
 use Rattle.knots.specs.Window.{Between}
 use Rattle.knots.proofs.Compare.{lt-trans-float}
@@ -181,14 +180,7 @@ module _ {ks : List Float} {x : Float} {high c i : ℕ} (w : Counting ks x high 
 
   pub counting-done : high ≤ i → c ≡ count_below ks x
   counting-done h =
-      sym (counted ks x c (omega (arith, w.some, w.most, w.high_end)) w.below (λ k l g. elim (le-or-lt high k) [
-        | inl q ↦ w.rest k q g
-        | inr q ↦ w.not-below k l (omega arith)
+      sym (counted ks x c (omega (arith, w.some, w.most, w.high_end)) w.below (λ k l g. elim (lt-or-ge k high) [
+        | inl q ↦ w.not-below k l (omega arith)
+        | inr q ↦ w.rest k q g
       ]))
-    where
-      le-or-lt : (a b : ℕ) → (a ≤ b) ⊎ (b < a)
-      le-or-lt a b = go (leb a b) refl
-        where
-          go : (t : Bool) → leb a b ≡ t → (a ≤ b) ⊎ (b < a)
-          go true p = inl (leb-true a b p)
-          go false p = inr (leb-false a b p)

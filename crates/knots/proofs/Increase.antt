@@ -1,7 +1,7 @@
 -- Laws of `rises`: the check, knot by knot, and that knots which rise are in order. Assumes nothing.
 use mathlib.Core.Path.{◌≡◌, refl, ap}
 use mathlib.Core.Logic.{inl, inr}
-use mathlib.Core.Bool.{Bool, true, false, ◌&&◌}
+use mathlib.Core.Bool.{Bool, true, ◌&&◌}
 use mathlib.Core.List.{List, [], ◌∷◌}
 use Prim.Native.Nat.{ℕ, zero, suc, ◌+◌, ◌≤◌, ◌<◌}
 use native.Mathlib.Nat.{eq-or-lt_of_le}
@@ -26,10 +26,6 @@ unfolding rises
 rises-by-pairs [] = refl
 rises-by-pairs (a ∷ []) = refl
 rises-by-pairs (a ∷ b ∷ ks) = ap (λ (rest : Bool). lt a b && rest) (rises-by-pairs (b ∷ ks))
-
-pub and-true : (b : Bool) → b && true ≡ b
-and-true true = refl
-and-true false = refl
 
 -- ---- knots that rise
 

@@ -9,10 +9,10 @@ use native.Mathlib.Nat.{eq-or-lt_of_le, mul-le-mul_left, mul-le-mul_right}
 use native.Mathlib.Numerals.{add-one}
 use native.Mathlib.Omega.{arith}
 use lib.ListN.{length, get_or, take, drop, length-drop, drop_of_length-le}
-use lib.Seq.{drop-cons, slice-cons, length-take-le, take-take}
+use lib.Seq.{drop-cons, length-take-le, take-take}
 use lib.Ieee.{Float}
 use Rattle.std.specs.List.{list_all, range_with_len}
-use Rattle.std.proofs.Math.Bool.{and_assoc}
+use Rattle.std.proofs.Math.Bool.{and-true, and_assoc}
 use Rattle.shape.specs.Shape.{product, size, points}
 use Rattle.shape.specs.Checks.{most_points}
 use Rattle.shape.specs.Usable.{Usable}
@@ -20,20 +20,9 @@ use Rattle.shape.proofs.Below.{and_both}
 use Rattle.shape.proofs.Accepted.{axes-are, points-are}
 use Rattle.knots.specs.Knots.{rises}
 use Rattle.knots.specs.Joined.{total, knots_of, all_rise}
-use Rattle.knots.proofs.Increase.{and-true}
 
--- ---- the axes from i on, of the first k: one more axis, and none
+-- ---- the lengths from i on: one more, and none
 
-module _ (lens : List ℕ) (k i : ℕ) (h : k ≤ length lens) where
-  pub total-cons : i < k → total (drop i (take k lens)) ≡ get_or lens i 0 + total (drop (i + 1) (take k lens))
-  unfolding total
-  total-cons g = ap total (slice-cons i k lens 0 g h) ∙ rw add-one
-
-  pub total-end : k ≤ i → total (drop i (take k lens)) ≡ 0
-  unfolding total
-  total-end g = ap total (drop_of_length-le (take k lens) {i = i} (rw (length-take-le k lens h) g))
-
--- the lengths from i on: one more, and none
 module _ (lens : List ℕ) (i : ℕ) where
   pub total-at : i < length lens → total (drop i lens) ≡ get_or lens i 0 + total (drop (i + 1) lens)
   unfolding total

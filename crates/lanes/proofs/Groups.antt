@@ -12,7 +12,7 @@ use Rattle.shape.specs.Fit.{Looks, solve_line, solve_lines, line_scratch, line_l
 use Rattle.shape.specs.Usable.{LinesWithin}
 use Rattle.shape.proofs.Accepted.{AxisIs}
 use Rattle.shape.proofs.Cells.{length-put, put_next, put-ext, from_in}
-use Rattle.shape.proofs.Fit.{length-solve_lines, earlier}
+use Rattle.shape.proofs.Fit.{earlier}
 use Rattle.shape.proofs.Radix.{quot, rem, line_of-cell, place_of-cell}
 use Rattle.multibspline.specs.Thomas.{at}
 use Rattle.lanes.specs.Lanes.{Lanes, solve_from, zero_samples, Uppers}
@@ -33,12 +33,6 @@ laid-slab n s slabs k len four pos h fits = record {
   starts = (λ j hj. rw (quot k hj, rem k hj) (omega arith));
   within = (λ i j hi hj. omega (arith, multiple s i n hi, multiple (n * s) k slabs h));
 }
-
--- its first line is a number that the code can work out
-pub slab-first : (n s slabs k len : ℕ) → 4 ≤ n → k < slabs → slabs * (n * s) ≤ len → k * s ≤ len
-slab-first n s slabs k len four h fits =
-    let one : 1 ≤ n = omega arith in
-    omega (arith, mul-le-mul_right (k * s) one, multiple (n * s) k slabs h)
 
 -- m lines of the last axis
 pub laid-bundle : (n lines first m len : ℕ) → 4 ≤ n → 0 < m → first + m ≤ lines → lines * n ≤ len → Lanes n 1 first n m len
@@ -83,14 +77,6 @@ lines-room {n} {s} {total} {m} {coefs} {scratch} w pos e = room (total / s) (sym
 pub slabs-room : (n s lines len : ℕ) → lines / s * s ≡ lines → lines * n ≤ len → lines / s * (n * s) ≤ len
 slabs-room n s lines len e fits = let z : lines / s * s * n ≡ lines * n = rw e in omega arith
 
--- both ways of going over the lines do all of them
-module _ (c : (ℕ → Float) → ℕ → Float) (n s lines : ℕ) (xs xs' : List Float) where
-  pub by-bundles : s ≡ 1 → xs' ≡ solve_lines nan c n 1 lines xs → xs' ≡ solve_lines nan c n s lines xs
-  by-bundles one e = rw one e
-
-  pub by-slabs : lines / s * s ≡ lines → xs' ≡ solve_lines nan c n s (lines / s * s) xs → xs' ≡ solve_lines nan c n s lines xs
-  by-slabs whole e = e ∙ ap (λ (k : ℕ). solve_lines nan c n s k xs) whole
-
 -- a line alone
 module _ (upper c : (ℕ → Float) → ℕ → Float) (n s lines m : ℕ) (xs ss : List Float) (one : lines ≡ 1) where
   pub lone-coefs : (xs' : List Float) → xs' ≡ solve_line nan c n s 0 xs → xs' ≡ solve_lines nan c n s lines xs
@@ -119,9 +105,6 @@ module _ {c : (ℕ → Float) → ℕ → Float} {n s most : ℕ} {xs₀ : List 
     cells = e ∙ rw w.cells (lines_from nan c n s first m xs₀);
   }
 
-  pub to-done : {xs : List Float} {first : ℕ} → SolvedTo c n s most xs₀ xs first → most ≤ first → xs ≡ solve_lines nan c n s most xs₀
-  to-done {xs} {first} w h = let e : first ≡ most = omega (arith, w.below) in rw e at w.cells
-
 -- the slabs below k
 pub record Slabs (c : (ℕ → Float) → ℕ → Float) (n s slabs : ℕ) (xs₀ xs : List Float) (k : ℕ) : Type 0 where
   pub below : k ≤ slabs
@@ -142,9 +125,6 @@ module _ {c : (ℕ → Float) → ℕ → Float} {n s slabs : ℕ} {xs₀ : List
         cells = e ∙ rw (a, w.cells) (lines_from nan c n s (k * s) s xs₀);
       }
 
-  pub slabs-done : {xs : List Float} {k : ℕ} → Slabs c n s slabs xs₀ xs k → slabs ≤ k → xs ≡ solve_lines nan c n s (slabs * s) xs₀
-  slabs-done {xs} {k} w h = let e : k ≡ slabs = omega (arith, w.below) in rw e at w.cells
-
 -- ---- numbers set one after the other from place m on
 
 pub record Filled (m : ℕ) (g : ℕ → Float) (n : ℕ) (u₀ u : List Float) (i : ℕ) : Type 0 where
@@ -153,21 +133,12 @@ pub record Filled (m : ℕ) (g : ℕ → Float) (n : ℕ) (u₀ u : List Float) 
   pub cells : u ≡ put (from m) g i u₀
 
 module _ {m : ℕ} {g : ℕ → Float} {n : ℕ} {u₀ : List Float} where
-  pub filled-start : Filled m g n u₀ u₀ 0
-  filled-start = record { most = omega arith; size = refl; cells = refl }
-
   pub filled_next : {u u' : List Float} {i : ℕ} {v : Float} → Filled m g n u₀ u i → i < n → u' ≡ set u (m + i) v → v ≡ g i → Filled m g n u₀ u' (i + 1)
   filled_next {u} {u'} {i} w h e new = record {
     most = omega arith;
     size = ap length e ∙ length-set u (m + i) _ ∙ w.size;
     cells = put_next (from m) g i u₀ u u' _ w.cells e new;
   }
-
-  pub filled-step : {u u' : List Float} {i : ℕ} → Filled m g n u₀ u i → i < n → u' ≡ set u (m + i) (g i) → Filled m g n u₀ u' (i + 1)
-  filled-step w h e = filled_next w h e refl
-
-  pub filled-done : {u : List Float} {i : ℕ} → Filled m g n u₀ u i → n ≤ i → u ≡ put (from m) g n u₀
-  filled-done {u} {i} w h = let e : i ≡ n = omega (arith, w.most) in rw e at w.cells
 
 -- upper number i from the one before it
 module _ {g : ℕ → Float} {n : ℕ} {u₀ : List Float} (next : ℕ → Float → Float) (starts : (x : Float) → next 0 x ≡ g 0) (goes : (i : ℕ) → suc i < n → next (suc i) (g i) ≡ g (suc i)) where
@@ -192,14 +163,6 @@ uppers-hold upper n u₀ u same e fits = record {
 }
 
 -- ---- what an axis leaves in scratch
-
--- each of its lines lies within the solved coefficients, and there is room for it after the upper numbers
-pub keep-room : (c : (ℕ → Float) → ℕ → Float) (n s total m b l : ℕ) (xs₀ ss₀ xs ss : List Float) (g : ℕ → Float) → LinesWithin n s total m (length xs₀) (length ss₀)
-    → b ≡ first_cell n s l → xs ≡ solve_lines nan c n s total xs₀ → ss ≡ put (from 0) g n ss₀ → l < total → (on_line b s (n - 1) < length xs) × (m + n ≤ length ss)
-keep-room c n s total m b l xs₀ ss₀ xs ss g w eb ex es h =
-    let lx : length xs ≡ length xs₀ = ap length ex ∙ length-solve_lines nan c n s total xs₀ in
-    let ls : length ss ≡ length ss₀ = ap length es ∙ length-put (from 0) g n ss₀ in
-    (rw (lx, eb) (w.inside l h), rw ls w.right-room)
 
 module _ (upper c : (ℕ → Float) → ℕ → Float) (n s total m : ℕ) (xs₀ ss₀ : List Float) (w : LinesWithin n s total m (length xs₀) (length ss₀)) (pos : 0 < total) (looks : Looks c n) where
   -- the last line has its coefficients

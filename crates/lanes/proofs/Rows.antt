@@ -58,10 +58,6 @@ swept_at op p q p' q' t m xs xs' e a b = rw (← a, ← b) e
 pub swept-by : (op op' : Float → Float → Float) (p q t m : ℕ) (xs xs' : List Float) → op ≡ op' → xs' ≡ swept op p q t m xs → xs' ≡ swept op' p q t m xs
 swept-by op op' p q t m xs xs' same e = rw (← same) e
 
--- a sweep leaves the lanes where they are
-pub laid-swept : {n s first t m : ℕ} (op : Float → Float → Float) (p q : ℕ) (xs xs' : List Float) → xs' ≡ swept op p q t m xs → Lanes n s first t m (length xs) → Lanes n s first t m (length xs')
-laid-swept {t = t} {m} op p q xs xs' e laid = laid_as (ap length e ∙ length-swept op p q t m xs) laid
-
 -- ---- the loop over the cells of a row
 
 pub record Swept (op : Float → Float → Float) (p q t m : ℕ) (xs₀ xs : List Float) (j : ℕ) : Type 0 where
@@ -86,9 +82,6 @@ module _ {op : Float → Float → Float} {p q t m : ℕ} {xs₀ : List Float} w
         size = ap length e ∙ length-set xs (p + j * t) _ ∙ w.size;
         cells = put_next (on_line p t) g j xs₀ xs xs' _ w.cells e (rw (here, there));
       }
-
-  pub sweep-done : {xs : List Float} {j : ℕ} → Swept op p q t m xs₀ xs j → m ≤ j → xs ≡ swept op p q t m xs₀
-  sweep-done {xs} {j} w h = let e : j ≡ m = omega (arith, w.most) in rw e at w.cells
 
 -- ---- what it does to the lanes
 

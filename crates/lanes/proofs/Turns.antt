@@ -53,13 +53,7 @@ module _ {op : ℕ → Float → Float → Float} {n s first t m : ℕ} {xs₁ :
       let z : length xs' ≡ length xs = ap length e ∙ length-swept _ _ _ t m xs in
       record { most = omega (arith, w.most); laid = laid_as z w.laid; size = z ∙ w.size; cells = rw a (rw (b, ← w.cells) (rw d at e)) }
 
-  pub down-done : {xs : List Float} {i : ℕ} → Down op n s first t m xs₁ xs i → i ≤ 0 → xs ≡ sweep_down op (first * n) t s m (n - 1) (n - 1) xs₁
-  down-done {xs} {i} w h = let e : n - 1 - i ≡ n - 1 = omega arith in rw e at w.cells
-
 pub length_up : (op : ℕ → Float → Float → Float) (base t s m k : ℕ) (xs : List Float) → length (sweep_up op base t s m k xs) ≡ length xs
 unfolding sweep_up
 length_up op base t s m zero xs = refl
 length_up op base t s m (suc k) xs = length-swept _ _ _ t m _ ∙ length_up op base t s m k xs
-
-pub laid-up : {n s first t m : ℕ} (op : ℕ → Float → Float → Float) (base k : ℕ) (xs xs' : List Float) → xs' ≡ sweep_up op base t s m k xs → Lanes n s first t m (length xs) → Lanes n s first t m (length xs')
-laid-up {s = s} {t = t} {m} op base k xs xs' e laid = laid_as (ap length e ∙ length_up op base t s m k xs) laid

@@ -1,11 +1,11 @@
 -- A line by the numbers that the code works out: whether it is due, and 1 more in its bytes. Assumes nothing.
-use Rattle.std.specs.Prelude.{Option, Some, None}
-use mathlib.Core.Path.{◌≡◌, refl, sym, ap, ◌∙◌}
+use Rattle.std.specs.Prelude.{Option, None}
+use mathlib.Core.Path.{◌≡◌, sym, ◌∙◌}
 use mathlib.Core.Bool.{false}
 use mathlib.Core.List.{List, [], ◌∷◌}
 use Prim.Native.Nat.{ℕ, ◌+◌, ◌≤◌, ◌<◌}
 use native.Mathlib.Omega.{arith}
-use lib.ListN.{length, set}
+use lib.ListN.{length}
 use borrow.Author.Tests.{lt-ltb}
 use Rattle.shape.specs.Shape.{points, stride, lines, first, is_line}
 use Rattle.shape.specs.Cells.{on_line, line, write_line}
@@ -13,7 +13,7 @@ use Rattle.shape.specs.Checks.{refuse, first_refusal}
 use Rattle.shape.specs.Line.{LineIs, LineLooked}
 use Rattle.shape.specs.declared.line.Line.{Line}
 use Rattle.shape.proofs.Checks.{check-fails, check-passes}
-use Rattle.shape.proofs.Cells.{length-put, put_next, put-ext}
+use Rattle.shape.proofs.Cells.{put-ext}
 use Rattle.shape.specs.Below.{any_below}
 use Rattle.book.specs.LineCall.{byte_above, byte_below, due_checks, one_more, bumped}
 use Rattle.book.proofs.Bytes.{due-bytes, bumped-line}
@@ -23,9 +23,6 @@ module _ (dims : List ℕ) (a l : ℕ) (ledger : List ℕ) where
   -- from what the search for the line finds: there is none, or it has these numbers
   pub due-none : {x : Option Line} → x ≡ None → LineLooked dims a l x → ◌≡◌ {A = ℕ} 7 (first_refusal (due_checks dims a l ledger))
   due-none told w = let e : is_line dims a l ≡ false = rw told at w in check-fails _ 7 _ (rw e)
-
-  pub found-is : {x : Option Line} {found : Line} → x ≡ Some found → LineLooked dims a l x → LineIs dims a l found
-  found-is told w = rw told at w
 
   module _ {found : Line} (w : LineIs dims a l found) where
     -- the answer for its bytes is the answer for the line
@@ -53,15 +50,7 @@ pub record SetTo (base stride n v : ℕ) (ledger₀ ledger : List ℕ) (i : ℕ)
   pub bytes : ledger ≡ write_line base stride (each v) i ledger₀
 
 module _ {base stride n v : ℕ} {ledger₀ : List ℕ} where
-  pub set-start : SetTo base stride n v ledger₀ ledger₀ 0
-  set-start = record { most = omega arith; same_length = refl; bytes = refl }
-
   module _ {ledger : List ℕ} {i : ℕ} (w : SetTo base stride n v ledger₀ ledger i) where
-    pub set-step : i < n → {ledger' : List ℕ} → ledger' ≡ set ledger (on_line base stride i) v → SetTo base stride n v ledger₀ ledger' (i + 1)
-    set-step h {ledger'} e =
-        let bytes : ledger' ≡ write_line base stride (each v) (i + 1) ledger₀ = put_next (on_line base stride) (each v) i ledger₀ ledger ledger' v w.bytes e refl in
-        record { most = omega arith; same_length = ap length bytes ∙ length-put _ _ (i + 1) ledger₀; bytes = bytes }
-
     pub set-done : n ≤ i → ledger ≡ write_line base stride (each v) n ledger₀
     set-done h = let e : i ≡ n = omega (arith, w.most) in rw e at w.bytes
 

@@ -10,6 +10,7 @@ use lib.ListN.{length, take, drop, set, get_or}
 use lib.Seq.{sets, sets-eq, take_at}
 use borrow.Author.Tests.{eq-eqb, ne_eqb}
 use Rattle.std.specs.Prelude.{Some, None}
+use Rattle.std.proofs.Math.Bool.{and-false}
 use Rattle.map_fields.specs.Head.{decimal_in, are_decimals, decimals_of, is_byte, are_counted, lengths_in, head_in, Kept, HeadRead}
 use Rattle.map_fields.specs.declared.head.FirstLine.{FirstLine}
 
@@ -61,10 +62,6 @@ pub record Counting (ps qs : List (List ℕ)) (old new : List ℕ) (k : ℕ) : T
 
 pub Counting-start : (ps : List (List ℕ)) (old : List ℕ) → Counting ps ps old old 0
 Counting-start ps old = record { read = refl; size = omega arith; kept = refl }
-
-and-false : (b : Bool) → b && false ≡ false
-and-false true = refl
-and-false false = refl
 
 module _ (all : List (List ℕ)) (c : List ℕ) (ps : List (List ℕ)) (e : all ≡ c ∷ ps) (n : ℕ) (d : decimal_in c ≡ Some n) where
   counted : are_counted all ≡ are_decimals ps && eqb (length ps) n

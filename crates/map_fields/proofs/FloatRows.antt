@@ -27,13 +27,6 @@ pub record Floating (n : ℕ) (ps : List (List ℕ)) (buf : List Float) (k : ℕ
   pub size : length buf ≡ n
   pub rest : floats_in n ps ≡ after (take k buf) (floats_in (n - k) qs)
 
-pub Floating-start : (ps : List (List ℕ)) (buf : List Float) → Floating (length buf) ps buf 0 ps
-Floating-start ps buf = record { few = omega arith; size = refl; rest = go (floats_in (length buf) ps) ∙ ap (λ (m : ℕ). after [] (floats_in m ps)) (let q : length buf ≡ length buf - 0 = omega arith in q) }
-  where
-    go : (o : Option (List Float)) → o ≡ after [] o
-    go None = refl
-    go (Some ys) = refl
-
 module _ (n : ℕ) (ps : List (List ℕ)) (buf : List Float) (k : ℕ) (qs : List (List ℕ)) (h : Floating n ps buf k qs) (l : k < n) where
   ahead : n - k ≡ suc (n - (k + 1))
   ahead = omega arith

@@ -25,9 +25,6 @@ ends base stride n len h start =
     lt-leb _ _ ((div-lt_iff_lt-mul pos).1 (omega (arith, mul_comm stride (n - 1)))) ∙ sym (le-ltb _ _ p))
     (lt-or-ge (on_line base stride (n - 1)) len)
 
-pub starts-past : (base stride n len : ℕ) → len ≤ base → false ≡ ltb (on_line base stride (n - 1)) len
-starts-past base stride n len h = sym (le-ltb (on_line base stride (n - 1)) len (omega arith))
-
 module _ (base stride n m coefs scratch : ℕ) where
   pub line-short : n < 4 → ◌≡◌ {A = ℕ} 2 (line_answer base stride n m coefs scratch)
   unfolding line_answer first_refusal

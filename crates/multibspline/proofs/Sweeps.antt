@@ -142,20 +142,6 @@ pub record Substituted (f : Format) (base stride n m : ℕ) (l₀ s₀ l s : Lis
   pub past : (k : ℕ) → m + n ≤ k → at s k ≡ at s₀ k
 
 module _ {f : Format} {base stride n m : ℕ} {l₀ s₀ : List Float} where
-  pub sub-start : 0 < n → Substituted f base stride n m l₀ s₀ l₀ s₀ (n - 1) (at s₀ (m + (n - 1)))
-  sub-start h =
-      let end : at s₀ (m + (n - 1)) ≡ solved f n m s₀ (n - 1) = back_last f (at s₀) (λ k. at s₀ (m + k)) (n - 1) in
-      record {
-        below = omega arith;
-        length-l = refl;
-        length-s = refl;
-        here = end;
-        cells = refl;
-        done = (λ k p q. let a : k ≡ n - 1 = omega arith in rw a end);
-        todo = (λ k p. refl);
-        past = (λ k p. refl);
-      }
-
   sub-next : (l s l' s' : List Float) (j : ℕ) (x x' : Float) → Substituted f base stride n m l₀ s₀ l s (suc j) x → n ≤ m → m + n ≤ length s₀
       → x' ≡ back_step f (at s j) (at s (m + j)) x → l' ≡ set l (on_line base stride j) x' → s' ≡ set s (m + j) x' → Substituted f base stride n m l₀ s₀ l' s' j x'
   sub-next l s l' s' j x x' t room fits ex el es =

@@ -4,4 +4,3 @@ pub mod Inner
 pub mod Lengths
 pub mod Points
 pub mod Straight
-pub mod Whole

@@ -271,16 +271,6 @@ pub record AxisIs (count : ℕ) (lens : List ℕ) (a n s total m : ℕ) : Type 0
   pub the-longest : m ≡ longest (take count lens)
 
 module _ (count : ℕ) (lens : List ℕ) (four : length lens ≡ 4) (u : Usable count lens) (a : ℕ) (ha : a < count) where
-  pub axis-is : {n s total m : ℕ} → n ≡ get_or lens a 0 → s ≡ stride_of count lens a → total ≡ lines_of count lens a → m ≡ longest (take count lens) → AxisIs count lens a n s total m
-  axis-is en es et em =
-      let ok = usable-accepted count lens four u in
-      record {
-        the-points = en ∙ sym (points-are count lens four u a ha);
-        the-stride = es ∙ stride-is count lens ok a ha;
-        the-lines = et ∙ lines_are count lens ok a ha;
-        the-longest = em;
-      }
-
   pub axis-within : {n s total m coefs scratch : ℕ} → AxisIs count lens a n s total m → coefs ≡ size (take count lens) → 2 * longest (take count lens) ≤ scratch → (0 < total) × LinesWithin n s total m coefs scratch
   axis-within x ec hs =
       let r = room count lens four u a ha in

@@ -47,9 +47,6 @@ module _ (count : ℕ) (lens : List ℕ) (a l : ℕ) where
 -- ---- a line by its numbers, of an accepted shape
 
 module _ (count : ℕ) (lens : List ℕ) (four : length lens ≡ 4) (u : Usable count lens) (a l : ℕ) where
-  pub no-axis : count ≤ a → is_line (take count lens) a l ≡ false
-  no-axis h = rw (axes-are count lens four u, le-ltb a count h)
-
   -- t is how many lines its axis has, by the code
   module _ {t : ℕ} (ha : a < count) (et : t ≡ lines (take count lens) a) where
     pub no_line : t ≤ l → is_line (take count lens) a l ≡ false
@@ -68,16 +65,6 @@ module _ (count : ℕ) (lens : List ℕ) (four : length lens ≡ 4) (u : Usable 
           let r = room count lens four u a ha in
           let inside = in_map count lens four u a l 0 ha the-line (omega (arith, r.four-points)) in
           (rw es r.stride-pos, rw (the-points, es) r.row_small, rw (the-points, es) (omega (arith, inside, u.few-points)))
-
-      pub line-is : {b m : ℕ} → b ≡ first_cell n s l → m ≡ longest (take count lens) → LineIs (take count lens) a l (record { n = n; stride = s; base = b; longest = m })
-      line-is eb em = record {
-        is-axis = rw (axes-are count lens four u) ha;
-        is-line = the-line;
-        the-points = the-points;
-        the-stride = es;
-        the-first = eb ∙ rw (the-points, es);
-        the-longest = em;
-      }
 
   -- ---- the buffers of a fit have room for it
   module _ {found : Line} (w : LineIs (take count lens) a l found) where

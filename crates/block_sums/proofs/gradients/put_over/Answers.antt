@@ -1,7 +1,7 @@
 use Rattle.std.proofs.Common.{◌≡◌, suc, ◌+◌, ◌∙◌, arith, below_more}
 use Rattle.std.specs.Float.{binary64}
 use Rattle.shape.proofs.Cells.{put-ext}
-use Rattle.evaluation.proofs.Blocks.{writing_start, writing-put, writing-done}
+use Rattle.evaluation.proofs.Blocks.{writing_start, writing-put}
 use Rattle.block_sums.specs.Sums.{part_of}
 use Rattle.block_sums.proofs.gradients.put_over.Goals as goal
 
@@ -18,6 +18,3 @@ loop-k-preserved g c =
           ((rw is at c.put_parts.ensures) ∙ put-ext _ _ _ count c.loop-k.out c.over-parts.ensures.parts);
       four = below_more _ _ c.loop-k.invariant.four c.over-parts.ensures.four;
     }
-
-pub returns-clause-put : goal.returns-clause-put
-returns-clause-put g c = writing-done c.loop-k.invariant.put (omega arith)

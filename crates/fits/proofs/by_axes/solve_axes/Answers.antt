@@ -2,30 +2,14 @@ use mathlib.Core.Path.{sym, ap, ◌∙◌}
 use lib.ListN.{length}
 use lib.Ieee.{nan}
 use Rattle.shape.proofs.Accepted.{axes-are}
-use Rattle.shape.proofs.Loops.{axes-start, axes-step, axes-coefs, axes-scratch}
+use Rattle.shape.proofs.Loops.{axes-start, axes-step}
 use Rattle.fits.proofs.by_axes.solve_axes.Goals as goal
 
 pub loop-axis-init : goal.loop-axis-init
 loop-axis-init g c = axes-start nan _ _ _
-
-pub solve_axis-requires : goal.solve_axis-requires
-solve_axis-requires g c =
-    let axes = c.axes-axis-end.result in
-    let count = sym (ap length c.axes-axis-end.ensures.dims) ∙ axes-are axes.count axes.dims c.axes-axis-end.ensures.four axes.usable in
-    let w = c.loop-axis.invariant in
-    record { is_axis = rw count c.loop-axis-test.true; room = (w.length-xs ∙ c.requires.0, rw w.length-ss c.requires.1) }
 
 pub loop-axis-preserved : goal.loop-axis-preserved
 loop-axis-preserved g c =
     let axes = c.axes-axis-end.result in
     let count = sym (ap length c.axes-axis-end.ensures.dims) ∙ axes-are axes.count axes.dims c.axes-axis-end.ensures.four axes.usable in
     axes-step nan _ _ _ c.loop-axis.invariant (rw count c.loop-axis-test.true) c.solve_axis.ensures.coeffs_after c.solve_axis.ensures.scratch_after
-
-pub returns : goal.returns
-returns g c =
-    let axes = c.axes-axis-end.result in
-    let count = sym (ap length c.axes-axis-end.ensures.dims) ∙ axes-are axes.count axes.dims c.axes-axis-end.ensures.four axes.usable in
-    record {
-      coeffs_after = axes-coefs nan _ _ _ c.loop-axis.invariant (rw count c.loop-axis-test.false);
-      scratch_after = axes-scratch nan _ _ _ c.loop-axis.invariant (rw count c.loop-axis-test.false);
-    }

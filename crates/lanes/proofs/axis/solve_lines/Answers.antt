@@ -1,11 +1,7 @@
-use native.Mathlib.Omega.{arith}
 use lib.Ieee.{binary64}
 use Rattle.lines.specs.Rows.{coefficient, upper_number}
 use Rattle.lanes.proofs.Groups.{lone-coefs, lone-leaves}
 use Rattle.lanes.proofs.axis.solve_lines.Goals as goal
-
-pub solve_nth-requires : goal.solve_nth-requires
-solve_nth-requires g c = (let pos = c.requires.within.0 in omega arith, c.requires.within.1)
 
 pub returns-then-axis-eq1 : goal.returns-then-axis-eq1
 returns-then-axis-eq1 g c =

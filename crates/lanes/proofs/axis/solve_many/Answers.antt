@@ -1,10 +1,9 @@
 use native.Mathlib.Omega.{arith}
 use lib.Ieee.{binary64}
-use Rattle.shape.proofs.Lines.{first-cell-room}
 use Rattle.lines.specs.Rows.{coefficient, upper_number}
 use Rattle.lines.proofs.Rows.{looks-coefficient}
 use Rattle.lanes.specs.Lanes.{zero_samples}
-use Rattle.lanes.proofs.Groups.{lines-room, uppers-hold, keep-room, axis-leaves}
+use Rattle.lanes.proofs.Groups.{lines-room, uppers-hold, axis-leaves}
 use Rattle.lanes.proofs.Systems.{upper-same}
 use Rattle.lanes.proofs.axis.solve_many.Goals as goal
 
@@ -18,19 +17,6 @@ solve_in_place-requires g c =
       whole = (w.stride-pos, c.requires.whole, lines-room w pos c.requires.whole);
       uppers = uppers-hold (upper_number binary64 s) s.points a.scratch.now _ (upper-same binary64 s zero_samples) c.upper_numbers.ensures (omega (arith, w.upper-room, w.right-room));
     }
-
-pub first_cell_of-base-requires : goal.first_cell_of-base-requires
-first_cell_of-base-requires g c =
-    rw c.points-n.ensures (first-cell-room c.requires.within.1 (let pos = c.requires.within.0 in omega arith))
-
-pub keep_line-requires : goal.keep_line-requires
-keep_line-requires g c =
-    let a = c.args in
-    let s = g.S.System.rows a.axis.system in
-    let pos = c.requires.within.0 in
-    let room = keep-room (coefficient binary64 s) s.points a.axis.stride a.axis.count a.axis.longest _ _ a.coeffs.now a.scratch.now _ _ (upper_number binary64 s zero_samples) c.requires.within.1
-    (rw c.points-n.ensures at c.first_cell_of-base.ensures) c.solve_in_place.ensures c.upper_numbers.ensures (omega arith) in
-    record { inside = rw c.points-n.ensures room.0; room = rw c.points-n.ensures room.1 }
 
 pub returns-clause-scratch_after : goal.returns-clause-scratch_after
 returns-clause-scratch_after g c =

@@ -1,8 +1,8 @@
-use Rattle.std.proofs.Common.{sym, arith}
+use Rattle.std.proofs.Common.{sym}
 use lib.ListN.{length}
 use Rattle.shape.proofs.Exit.{err-is}
 use Rattle.shape.specs.declared.answers.Refusal.TheVariants.{DimensionMismatch}
-use Rattle.evaluation.proofs.Batches.{batch-refused, batch-entries, batch-small}
+use Rattle.evaluation.proofs.Batches.{batch-refused, batch-entries}
 use Rattle.evaluation.proofs.Outcomes.{batch-checks, batch-length, batch-passed}
 use Rattle.map_calls.proofs.batch.interp.Goals as goal
 
@@ -12,22 +12,12 @@ returns-in_err-map g c =
     rw (err-is {e = c.in_err-map.field-0.0} c.from_residual.result c.from_residual.ensures.1)
     (batch-refused _ (batch-checks _ (length a.xs.now) (length a.out.now) _ c.in_err-map.ensures))
 
-pub overflow_mul-count : goal.overflow_mul-count
-overflow_mul-count g c =
-    let f = c.in_ok-map.ensures in
-    record { fits = rw (c.count.ensures, f.1.0) (batch-small (g.L.Lent.view c.args.lent).count (length c.args.out.now) f.1.1.shape.at-most-four (omega (arith, c.well_formed))) }
-
 pub returns-then-xs-count : goal.returns-then-xs-count
 returns-then-xs-count g c =
     let a = c.args in
     let f = c.in_ok-map.ensures in
     batch-refused DimensionMismatch
     (batch-length _ (length a.xs.now) (length a.out.now) (g.met.L.Lent.positive a.lent (length a.coeffs.now)) (sym f.0) (rw (f.1.0) at (rw c.count.ensures at c.if-xs-count.true)))
-
-pub batch-requires : goal.batch-requires
-batch-requires g c =
-    let f = c.in_ok-map.ensures in
-    record { sized = rw f.1.0 f.1.1.sized; room = (omega (arith, rw c.count.ensures at c.if-xs-count.false), omega arith) }
 
 pub returns : goal.returns
 returns g c =

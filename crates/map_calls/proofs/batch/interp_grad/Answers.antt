@@ -1,8 +1,8 @@
-use Rattle.std.proofs.Common.{sym, arith}
+use Rattle.std.proofs.Common.{sym}
 use lib.ListN.{length}
 use Rattle.shape.proofs.Exit.{err-is}
 use Rattle.shape.specs.declared.answers.Refusal.TheVariants.{DimensionMismatch}
-use Rattle.evaluation.proofs.Batches.{batch-refused, batch-entries, whole-batch}
+use Rattle.evaluation.proofs.Batches.{batch-refused, batch-entries}
 use Rattle.evaluation.proofs.Outcomes.{gradient-checks, gradient-whole, gradient-length, gradient-passed}
 use Rattle.map_calls.proofs.batch.interp_grad.Goals as goal
 
@@ -11,11 +11,6 @@ returns-in_err-map g c =
     let a = c.args in
     rw (err-is {e = c.in_err-map.field-0.0} c.from_residual.result c.from_residual.ensures.1)
     (batch-refused _ (gradient-checks _ (length a.xs.now) (length a.out.now) _ c.in_err-map.ensures))
-
-pub nonzero_rem-out : goal.nonzero_rem-out
-nonzero_rem-out g c =
-    let f = c.in_ok-map.ensures in
-    omega (arith, f.1.1.shape.some-axis, rw f.1.0 at c.count-count.ensures)
 
 pub returns-then-out-count-ne0 : goal.returns-then-out-count-ne0
 returns-then-out-count-ne0 g c =
@@ -31,17 +26,6 @@ returns-then-xs-out g c =
     batch-refused DimensionMismatch
     (gradient-length _ (length a.xs.now) (length a.out.now) (g.met.L.Lent.positive a.lent (length a.coeffs.now)) (sym f.0)
     (rw (f.1.0) at (rw c.count-count.ensures at c.if-out-count-ne0.false)) c.if-xs-out.true)
-
-pub nonzero_div-out : goal.nonzero_div-out
-nonzero_div-out g c =
-    let f = c.in_ok-map.ensures in
-    omega (arith, f.1.1.shape.some-axis, rw f.1.0 at c.count-count.ensures)
-
-pub batch-requires : goal.batch-requires
-batch-requires g c =
-    let f = c.in_ok-map.ensures in
-    let n = whole-batch (length c.args.out.now) (g.L.Lent.view c.args.lent).count in
-    record { sized = rw f.1.0 f.1.1.sized; room = (rw (c.count-count.ensures, f.1.0) (omega (arith, n, c.if-xs-out.false)), rw (c.count-count.ensures, f.1.0) (omega (arith, n))) }
 
 pub returns : goal.returns
 returns g c =

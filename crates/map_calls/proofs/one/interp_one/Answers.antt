@@ -1,4 +1,4 @@
-use Rattle.std.proofs.Common.{sym, arith}
+use Rattle.std.proofs.Common.{sym}
 use lib.ListN.{length}
 use Rattle.shape.proofs.Exit.{err-is}
 use Rattle.shape.specs.declared.answers.Refusal.TheVariants.{DimensionMismatch}
@@ -16,11 +16,6 @@ returns-then-x-count g c =
     let f = c.in_ok-map.ensures in
     one-refused _ a.x.now DimensionMismatch
     (one-length _ a.x.now (g.met.L.Lent.positive a.lent (length a.coeffs.now)) (sym f.0) (rw (f.1.0) at (rw c.count.ensures at c.if-x-count.true)))
-
-pub value_at-requires : goal.value_at-requires
-value_at-requires g c =
-    let f = c.in_ok-map.ensures in
-    (rw f.1.0 f.1.1, omega (arith, c.if-x-count.false, c.count.ensures))
 
 pub returns : goal.returns
 returns g c =

@@ -1,4 +1,4 @@
-use Rattle.std.proofs.Common.{sym, arith}
+use Rattle.std.proofs.Common.{sym}
 use lib.ListN.{length}
 use Rattle.shape.proofs.Exit.{err-is}
 use Rattle.shape.specs.declared.answers.Refusal.TheVariants.{DimensionMismatch}
@@ -16,11 +16,6 @@ returns-then-x-count g c =
     let f = c.in_ok-map.ensures in
     one-gradient-refused _ a.x.now DimensionMismatch
     (one-length _ a.x.now (g.met.L.Lent.positive a.lent (length a.coeffs.now)) (sym f.0) (rw (f.1.0) at (rw c.count.ensures at c.if-x-count.true)))
-
-pub single_gradient-requires : goal.single_gradient-requires
-single_gradient-requires g c =
-    let f = c.in_ok-map.ensures in
-    (rw f.1.0 f.1.1.sized, omega (arith, c.if-x-count.false, c.count.ensures), rw f.1.0 f.1.1.shape.at-most-four)
 
 pub returns : goal.returns
 returns g c =

@@ -1,14 +1,7 @@
 use mathlib.Core.Path.{refl}
 use lib.ListN.{length}
-use Rattle.shape.proofs.Exit.{err-is}
-use Rattle.shape.proofs.Fitted.{fitted-refused, fitted-accepted}
 use Rattle.multibspline.proofs.Line.{line-fits}
 use Rattle.rectilinear_lines.proofs.line.solve_line.Goals as goal
-
-pub returns-in_err-check_line : goal.returns-in_err-check_line
-returns-in_err-check_line c =
-    rw (err-is {e = c.in_err-check_line.field-0.0} c.from_residual.result c.from_residual.ensures.1)
-    (fitted-refused _ c.in_err-check_line.ensures)
 
 pub invariant_of-axis : goal.invariant_of-axis
 invariant_of-axis c =
@@ -21,7 +14,3 @@ solve_checked-requires c =
     let a = c.args in
     let fits = line-fits a.base a.stride (length a.grid.now) a.longest (length a.coeffs.now) (length a.scratch.now) c.in_ok-check_line.ensures in
     record { of = (refl, fits.0.1); room = fits.1 }
-
-pub returns : goal.returns
-returns c =
-    fitted-accepted c.in_ok-check_line.ensures c.solve_checked.ensures.coeffs_after c.solve_checked.ensures.scratch_after

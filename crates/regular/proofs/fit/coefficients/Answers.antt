@@ -2,15 +2,9 @@ use mathlib.Core.Path.{sym, ◌∙◌}
 use native.Mathlib.Omega.{arith}
 use lib.ListN.{length}
 use lib.Ieee.{binary64}
-use Rattle.shape.proofs.Exit.{err-is}
-use Rattle.shape.proofs.Fitted.{fitted-refused, fitted-accepted}
+use Rattle.shape.proofs.Fitted.{fitted-accepted}
 use Rattle.regular.proofs.Total.{in-range, fit-of, scratch-of}
 use Rattle.regular.proofs.fit.coefficients.Goals as goal
-
-pub returns-in_err-axes : goal.returns-in_err-axes
-returns-in_err-axes c =
-    rw (err-is {e = c.in_err-axes.field-0.0} c.from_residual.result c.from_residual.ensures.1)
-    (fitted-refused _ c.in_err-axes.ensures)
 
 pub fit-requires : goal.fit-requires
 fit-requires c =

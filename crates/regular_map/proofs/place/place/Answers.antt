@@ -1,3 +1,4 @@
+use Prim.Native.Nat.{◌<◌}
 use native.Mathlib.Omega.{arith}
 use lib.Ieee.{binary64}
 use Rattle.shape.proofs.Exit.{err-is}
@@ -26,25 +27,22 @@ bounds-dims-axis c =
 pub offset_bounds-dims-axis : goal.offset_bounds-dims-axis
 offset_bounds-dims-axis c = let i = bounds-dims-axis c in omega arith
 
-pub offset_bounds-starts-axis : goal.offset_bounds-starts-axis
-offset_bounds-starts-axis c =
+few : (c : goal.Else-count-axis) → c.args.axis < 4
+few c =
     let u = map-usable c.args.count c.args.dims c.args.steps _ c.in_ok-check_map.ensures (omega (arith, c.well_formed)) in
     omega (arith, c.if-count-axis.false, u.at-most-four)
+
+pub offset_bounds-starts-axis : goal.offset_bounds-starts-axis
+offset_bounds-starts-axis c = omega (arith, few c)
 
 pub bounds-starts-axis : goal.bounds-starts-axis
-bounds-starts-axis c =
-    let u = map-usable c.args.count c.args.dims c.args.steps _ c.in_ok-check_map.ensures (omega (arith, c.well_formed)) in
-    omega (arith, c.if-count-axis.false, u.at-most-four)
+bounds-starts-axis c = omega (arith, few c)
 
 pub offset_bounds-steps-axis : goal.offset_bounds-steps-axis
-offset_bounds-steps-axis c =
-    let u = map-usable c.args.count c.args.dims c.args.steps _ c.in_ok-check_map.ensures (omega (arith, c.well_formed)) in
-    omega (arith, c.if-count-axis.false, u.at-most-four)
+offset_bounds-steps-axis c = omega (arith, few c)
 
 pub bounds-steps-axis : goal.bounds-steps-axis
-bounds-steps-axis c =
-    let u = map-usable c.args.count c.args.dims c.args.steps _ c.in_ok-check_map.ensures (omega (arith, c.well_formed)) in
-    omega (arith, c.if-count-axis.false, u.at-most-four)
+bounds-steps-axis c = omega (arith, few c)
 
 pub get_loc-requires : goal.get_loc-requires
 get_loc-requires c =

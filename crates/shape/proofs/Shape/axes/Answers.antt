@@ -19,9 +19,6 @@ unfolding first_refusal
 returns-then-any_short c =
     rw (ne_eqb _ _ c.if-count-eq0.false, le-ltb _ _ c.if-count-gt4.false, sym c.any_short.ensures ∙ c.if-any_short.true)
 
-pub points_to_limit-requires : goal.points_to_limit-requires
-points_to_limit-requires c = sym c.any_short.ensures ∙ c.if-any_short.false
-
 pub returns-then-points_to_limit-gt16777216 : goal.returns-then-points_to_limit-gt16777216
 unfolding first_refusal
 returns-then-points_to_limit-gt16777216 c =

@@ -1,16 +1,9 @@
 use mathlib.Core.Path.{◌≡◌}
 use native.Mathlib.Omega.{arith}
 use lib.ListN.{length}
-use lib.Ieee.{binary64}
 use Rattle.shape.proofs.Accepted.{axes-are}
-use Rattle.rectilinear.proofs.Axis.{knots-long, system-is}
+use Rattle.rectilinear.proofs.Axis.{knots-long}
 use Rattle.rectilinear.proofs.grid.RectilinearGridGrid.axis.Goals as goal
-
-pub along-grid-requires : goal.along-grid-requires
-along-grid-requires c =
-    let axes = c.args.self.joined.axes in
-    let four : length axes.dims ≡ 4 = omega (arith, c.well_formed) in
-    rw (axes-are axes.count axes.dims four axes.usable) at c.requires
 
 pub low_ghost_coeffs-low_ghost-requires : goal.low_ghost_coeffs-low_ghost-requires
 low_ghost_coeffs-low_ghost-requires c =
@@ -31,6 +24,3 @@ invariant_of-result c =
     record {
       four = knots-long axes.count axes.dims four axes.usable c.args.a (rw (axes-are axes.count axes.dims four axes.usable) at c.requires) c.args.self.joined.knots.now c.args.self.joined.as_many c.along-grid.ensures;
     }
-
-pub returns : goal.returns
-returns c = system-is binary64 _ _ _ c.along-grid.ensures c.low_ghost_coeffs-low_ghost.ensures c.high_ghost_coeffs-high_ghost.ensures

@@ -19,6 +19,3 @@ pub overflow_mul-result : goal.overflow_mul-result
 overflow_mul-result c =
     let a = c.args.self in
     omega (arith, are c, (room a.count a.dims (omega (arith, c.well_formed)) a.usable c.args.axis c.requires).lines-small)
-
-pub returns : goal.returns
-returns c = are c
