@@ -20,7 +20,10 @@ pub fn block<F: Figures, M: Map>(
 ) -> usize
     requires sized { length coeffs.now ≡ size (take (M.view map.now).count (M.view map.now).lens) }
     requires room { ((M.view map.now).count * s.n ≤ length s.xs.now) × (s.m ≤ length places.old) × (s.m ≤ length spots.old) × (F.numbers (M.view map.now).count s.n ≤ length out.old) }
-    ensures { (checks : List Check) → Block (bad_at (spline_of binary64 (M.view map.now) checks coeffs.now) s.entry.xs.now s.entry.n) (F.step (spline_of binary64 (M.view map.now) checks coeffs.now) s.entry.xs.now s.entry.n) s.entry.from s.entry.m out.old result out.new }
+    ensures { (checks : List Check)
+        → Block (bad_at (spline_of binary64 (M.view map.now) checks coeffs.now) s.entry.xs.now s.entry.n)
+        (F.step (spline_of binary64 (M.view map.now) checks coeffs.now) s.entry.xs.now s.entry.n) s.entry.from s.entry.m
+        out.old result out.new }
 {
     let good = look::<F, M>(map, s, places, spots);
     F::put(map, coeffs, s, &spots[..good], out);

@@ -35,8 +35,7 @@ pub extern "C" fn corvezan_rectilinear_check(dims: &[usize], grid: &[f64], coeff
     ensures { result ≡ map_answer (length dims.now) (lens_of dims.now) grid.now coeffs_len }
 {
     let shape = shape_of(dims);
-    let lens = shape.dims;
-    number(rectilinear_map::check_map(shape.count, lens, grid, coeffs_len))
+    number(rectilinear_map::check_map(shape.count, shape.dims, grid, coeffs_len))
 }
 
 #[unsafe(no_mangle)]

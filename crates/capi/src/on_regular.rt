@@ -41,9 +41,7 @@ pub extern "C" fn corvezan_regular_check(dims: &[usize], grid: &[f64], coeffs_le
         return refused;
     }
     let map = regular_map_of(dims, grid, 0);
-    let lens = map.dims;
-    let steps = map.steps;
-    number(regular_map::check_map(map.count, lens, steps, coeffs_len))
+    number(regular_map::check_map(map.count, map.dims, map.steps, coeffs_len))
 }
 
 #[unsafe(no_mangle)]

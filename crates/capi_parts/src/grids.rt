@@ -40,8 +40,8 @@ pub fn regular_map_of(dims: &[usize], grid: &[f64], linear: u32) -> MultiBspline
     MultiBsplineRegular {
         count: dims.len(),
         dims: lens,
-        starts: starts,
-        steps: steps,
+        starts,
+        steps,
         linearize_extrapolation: linear != 0,
     }
 }

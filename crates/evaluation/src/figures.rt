@@ -37,14 +37,20 @@ pub trait Figures {
         requires enough { (a < count) × (count ≤ 4) × (length xs.now ≤ length places.now) × (length xs.now ≤ length spots.old) }
         requires kept { (k : ℕ) (none : A.Place) → k < length xs.now → A.Kept axis (get_or xs.now k nan) (get_or places.now k none) }
         ensures firsts { (k : ℕ) → k < length xs.now → (get_or spots.new k no_spot).first ≡ (get_or spots.old k no_spot).first }
-        ensures rows { (m : ByAxis) → m.count ≡ count → AxisOf m a (A.view axis) → (x : List Float) (k : ℕ) → k < length xs.now → get_or xs.now k nan ≡ get_or x a nan → Rows m x a (get_or spots.old k no_spot) → Rows m x (a + 1) (get_or spots.new k no_spot) };
+        ensures rows { (m : ByAxis) → m.count ≡ count → AxisOf m a (A.view axis)
+            → (x : List Float) (k : ℕ) → k < length xs.now → get_or xs.now k nan ≡ get_or x a nan
+            → Rows m x a (get_or spots.old k no_spot) → Rows m x (a + 1) (get_or spots.new k no_spot) };
 
     // The numbers of the queries from entry `from` of n on, which have a place and their rows on every axis.
     fn put<M: Map>(map: &M, coeffs: &[f64], s: Span, spots: &[Spot], out: &mut [f64])
         requires sized { length coeffs.now ≡ size (take (M.view map.now).count (M.view map.now).lens) }
         requires room { (s.from + length spots.now ≤ s.n) × (numbers (M.view map.now).count s.n ≤ length out.old) }
-        requires looked { (k : ℕ) → k < length spots.now → PlacedTo (M.view map.now) (query (M.view map.now).count s.xs.now s.n (s.from + k)) (M.view map.now).count (get_or spots.now k no_spot).first × Rows (M.view map.now) (query (M.view map.now).count s.xs.now s.n (s.from + k)) (M.view map.now).count (get_or spots.now k no_spot) }
-        ensures { (checks : List Check) → out.new ≡ written (λ k. step (spline_of binary64 (M.view map.now) checks coeffs.now) s.entry.xs.now s.entry.n (s.entry.from + k)) (length spots.now) out.old };
+        requires looked { (k : ℕ) → k < length spots.now
+            → PlacedTo (M.view map.now) (query (M.view map.now).count s.xs.now s.n (s.from + k)) (M.view map.now).count (get_or spots.now k no_spot).first
+            × Rows (M.view map.now) (query (M.view map.now).count s.xs.now s.n (s.from + k)) (M.view map.now).count (get_or spots.now k no_spot) }
+        ensures { (checks : List Check)
+            → out.new ≡ written (λ k. step (spline_of binary64 (M.view map.now) checks coeffs.now) s.entry.xs.now s.entry.n (s.entry.from + k))
+            (length spots.now) out.old };
 
     // before any axis there is no row to have
     ghost none: { (m : ByAxis) (x : List Float) (s : Spot) → Rows m x 0 s };

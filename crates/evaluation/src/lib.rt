@@ -1,4 +1,8 @@
 // What evaluating a map is on either grid: the rows of weights of a block of queries, strides, entries in use, the answers.
+//
+// That there are as many coefficients as a map has points is a fact of a map of any type and of what the caller lends beside it; a
+// struct of the two would be made by each caller of one function. `n`, `count`, `a` and `stride` number queries, axes and cells: a
+// coordinate stands axis after axis, so that none is the length of a slice.
 #![tactic(auto)]
 
 mod axis;

@@ -1,5 +1,7 @@
 // Floats and 64-bit numbers as text: 16 lower-case hexadecimal digits, the highest first. A float is written as its bits
 // (IEEE 754 binary64). Every NaN is read as the one NaN, which is written 7ff8000000000000.
+//
+// `at` is where the caller is in its text: the contracts say what stands before and behind it too, which a slice from it on can't.
 #![tactic(auto)]
 
 ghost use Rattle.std.specs.Prelude.{◌≡◌, ◌+◌, ◌*◌, ◌/◌, ◌<◌, ◌≤◌, ◌^◌, leb, is_ok, length};

@@ -1,5 +1,8 @@
 // Four-term sums, and the sum over the axes by the 4 by 4 table of partial sums. After interpn's interp_math and the vertex
 // loop of multibspline. A multiply and an add are rounded one after the other.
+//
+// `at` is a place in the coefficients and no length beside them: the neighbours lie a stride apart behind it in the one list, and
+// a slice from it on would be cut anew for each of four, with the same bound.
 #![tactic(auto)]
 
 ghost use Rattle.std.specs.Prelude.{◌≡◌};

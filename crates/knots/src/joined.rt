@@ -22,8 +22,7 @@ fn knots_on(dims: &[usize]) -> usize
 pub fn knots_of_all(axes: Axes) -> usize
     ensures { result ≡ total (take axes.count axes.dims) }
 {
-    let dims = axes.dims;
-    knots_on(&dims[..axes.count])
+    knots_on(&axes.dims[..axes.count])
 }
 
 // The axes, and the knots of each, axis after axis, which are lent.

@@ -1,5 +1,7 @@
 // What stepwise fitting on either grid shares: the ledger, one byte a cell, and the checks of begin, the line call and the task
 // list. These are inner functions of the library; a caller uses `stepwise`.
+//
+// The rows of lent buffers are the C interface's, and stay.
 #![tactic(auto)]
 
 mod bytes;

@@ -6,10 +6,10 @@ ghost use Rattle.map_print.specs.Print.{Wrote, floats_text, count_text, unreadab
 
 use crate::page::Page;
 
-impl Page {
+impl<const N: usize> Page<N> {
     // Decimal digits; `unit` is the weight of the highest.
     fn put_digits(&mut self, n: u64, unit: u64, count: usize)
-        requires { (length self.old + count ≤ 98440) × (count ≤ 5) × (n < 10 ^ count) × (unit ≡ 10 ^ count / 10) }
+        requires { (length self.old + count ≤ N) × (count ≤ 5) × (n < 10 ^ count) × (unit ≡ 10 ^ count / 10) }
         ensures { Wrote self.old (digits_of 10 count n) self.new }
     {
         let mut digits = [0u8; 5];
@@ -19,7 +19,7 @@ impl Page {
 
     // By the cases of `width_of`: a loop over the powers of ten would have a fact to keep for each, and is no shorter.
     fn put_count(&mut self, n: u64)
-        requires { (length self.old + 5 ≤ 98440) × (n < 100000) }
+        requires { (length self.old + 5 ≤ N) × (n < 100000) }
         ensures { Wrote self.old (count_text n) self.new }
     {
         if n < 10 {
@@ -37,7 +37,7 @@ impl Page {
 
     // A comma and a float.
     fn put_float(&mut self, x: f64)
-        requires { length self.old + 17 ≤ 98440 }
+        requires { length self.old + 17 ≤ N }
         ensures { Wrote self.old (44 ∷ float_text x) self.new }
     {
         let mut text = [0u8; 16];
@@ -48,7 +48,7 @@ impl Page {
     }
 
     fn put_floats(&mut self, xs: &[f64])
-        requires { length self.old + 17 * length xs.now ≤ 98440 }
+        requires { length self.old + 17 * length xs.now ≤ N }
         ensures { Wrote self.old (floats_text xs.now) self.new }
     {
         for x in xs {
@@ -58,7 +58,7 @@ impl Page {
 
     // A letter and a comma.
     fn put_head(&mut self, letter: u8)
-        requires { length self.old + 2 ≤ 98440 }
+        requires { length self.old + 2 ≤ N }
         ensures { Wrote self.old (letter ∷ 44 ∷ []) self.new }
     {
         self.push(letter);
@@ -67,7 +67,7 @@ impl Page {
 
     // A line of a letter and a number of one digit: of a refusal the number is what is printed.
     fn put_number(&mut self, letter: u8, number: u64)
-        requires { (length self.old + 4 ≤ 98440) × (number < 10) }
+        requires { (length self.old + 4 ≤ N) × (number < 10) }
         ensures { Wrote self.old (letter ∷ 44 ∷ (48 + number) ∷ 10 ∷ []) self.new }
     {
         self.put_head(letter);
@@ -77,7 +77,7 @@ impl Page {
 
     // X: line k is unreadable.
     pub fn put_unreadable(&mut self, k: u64)
-        requires { (length self.old + 8 ≤ 98440) × (k < 100000) }
+        requires { (length self.old + 8 ≤ N) × (k < 100000) }
         ensures { Wrote self.old (unreadable_line k) self.new }
     {
         self.put_head(b'X');
@@ -88,7 +88,7 @@ impl Page {
     // M: the refusal of the map, or 0.
     #[tactic(auto, unfolding(crate::specs::Print::map_line))]
     pub fn put_map(&mut self, number: u64)
-        requires { (length self.old + 4 ≤ 98440) × (number < 10) }
+        requires { (length self.old + 4 ≤ N) × (number < 10) }
         ensures { Wrote self.old (map_line number) self.new }
     {
         self.put_number(b'M', number);
@@ -96,7 +96,7 @@ impl Page {
 
     // V: the value and the gradient.
     pub fn put_values(&mut self, value: f64, gradient: &[f64])
-        requires { length self.old + 21 + 17 * length gradient.now ≤ 98440 }
+        requires { length self.old + 21 + 17 * length gradient.now ≤ N }
         ensures { Wrote self.old (answer_line 0 value gradient.now) self.new }
     {
         self.put_head(b'V');
@@ -108,7 +108,7 @@ impl Page {
 
     // V: the refusal of a query, which has no value.
     pub fn put_refusal(&mut self, number: u64)
-        requires { (length self.old + 4 ≤ 98440) × (0 < number) × (number < 10) }
+        requires { (length self.old + 4 ≤ N) × (0 < number) × (number < 10) }
         ensures { (value : Float) (gradient : List Float) → Wrote self.old (answer_line number value gradient) self.new }
     {
         self.put_number(b'V', number);
@@ -116,7 +116,7 @@ impl Page {
 
     // T: the queries, and how many of them are outside.
     pub fn put_totals(&mut self, queries: u64, outside: u64)
-        requires { (length self.old + 14 ≤ 98440) × (queries < 100000) × (outside < 100000) }
+        requires { (length self.old + 14 ≤ N) × (queries < 100000) × (outside < 100000) }
         ensures { Wrote self.old (total_line queries outside) self.new }
     {
         self.put_head(b'T');

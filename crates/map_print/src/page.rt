@@ -4,27 +4,27 @@ ghost use Rattle.map_print.specs.Print.{Wrote};
 
 use std::marker::Model;
 
-// What is printed: up to 98,440 bytes, of which `len` are printed.
+// What is printed: up to N bytes, of which `len` are printed.
 #[derive(Drop)]
-pub struct Page {
-    bytes: [u8; 98440],
+pub struct Page<const N: usize> {
+    bytes: [u8; N],
     len: usize,
 }
 
-impl Model for Page {
+impl<const N: usize> Model for Page<N> {
     ghost Value = { List ℕ };
 
     ghost view = { λ p. take p.len p.bytes };
 
-    ghost invariant = { λ p. p.len ≤ 98440 };
+    ghost invariant = { λ p. p.len ≤ N };
 }
 
-impl Page {
-    pub fn new() -> Page
+impl<const N: usize> Page<N> {
+    pub fn new() -> Self
         ensures { result ≡ [] }
     {
         Page {
-            bytes: [0; 98440],
+            bytes: [0; N],
             len: 0,
         }
     }
@@ -42,7 +42,7 @@ impl Page {
     }
 
     pub(crate) fn push(&mut self, b: u8)
-        requires { length self.old < 98440 }
+        requires { length self.old < N }
         ensures { Wrote self.old (b ∷ []) self.new }
     {
         self.bytes[self.len] = b;
@@ -50,7 +50,7 @@ impl Page {
     }
 
     pub(crate) fn extend(&mut self, bytes: &[u8])
-        requires { length self.old + length bytes.now ≤ 98440 }
+        requires { length self.old + length bytes.now ≤ N }
         ensures { Wrote self.old bytes.now self.new }
     {
         for b in bytes {

@@ -29,7 +29,12 @@ fn read_input<R: Read>(from: &mut R, input: &mut [u8], spare: &mut [u8]) -> Byte
 }
 
 // Reads, and works on what was read.
-fn answer<R: Read>(from: &mut R, input: &mut [u8], spare: &mut [u8], page: &mut Page) -> Bytes
+fn answer<R: Read>(
+    from: &mut R,
+    input: &mut [u8],
+    spare: &mut [u8],
+    page: &mut Page<98440>,
+) -> Bytes
     requires { length input.old ≡ 32768 }
     ensures { page.new ≡ program (take result.kept input.new ++ take result.spare spare.new) }
 {

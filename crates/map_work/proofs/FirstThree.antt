@@ -45,8 +45,8 @@ axes-of h row samples = go h.regular
     go false = refl
 
 module _ (ls ms : List (List ℕ)) (k : ℕ) (got : List Float) (r : row_in k ls ≡ Some got) (a : ms ≡ rest ls) where
-  pub ready-next : {axes n : ℕ} → Ready ls axes n → Ready ms axes n
-  ready-next h = let l : 17 * k + room_of ms ≤ room_of ls = rw a (row-long k ls got r) in record { some-axis = h.some-axis; at-most-four = h.at-most-four; room = omega (arith, h.room, l) }
+  pub ready-next : {axes n size : ℕ} → Ready ls axes n size → Ready ms axes n size
+  ready-next h = let l : 17 * k + room_of ms ≤ room_of ls = rw a (row-long k ls got r) in record { some-axis = h.some-axis; at-most-four = h.at-most-four; short = omega (arith, h.short, l); room = omega (arith, h.room, l) }
 
   module _ (head : Head) (old new : List ℕ) where
     pub row_read : k ≡ row_length head → Wrote old (third head got ms) new → Wrote old (second head ls) new
@@ -91,9 +91,9 @@ made-axes line u row samples coefs s f =
     sym (ap (λ (t : Surface). t.spline.axes) (made-is f) ∙ axes-of (head_of line) row samples ∙ axes-are line.count line.dims u.four u.usable)
 
 -- the room behind M
-pub ready-run : {ls : List (List ℕ)} {axes : ℕ} {old new : List ℕ} (number : ℕ) → Ready ls axes (length old + 4) → Wrote old (map_line number) new → Ready ls axes (length new)
+pub ready-run : {ls : List (List ℕ)} {axes size : ℕ} {old new : List ℕ} (number : ℕ) → Ready ls axes (length old + 4) size → Wrote old (map_line number) new → Ready ls axes (length new) size
 unfolding map_line
-ready-run number h w = record { some-axis = h.some-axis; at-most-four = h.at-most-four; room = omega (arith, h.room, grown w) }
+ready-run number h w = record { some-axis = h.some-axis; at-most-four = h.at-most-four; short = h.short; room = omega (arith, h.room, grown w) }
 
 -- ---- the shape
 
@@ -197,8 +197,8 @@ module _ (line : FirstLine) (shaped : Shaped line) where
   }
 
 -- the shape, as the code finds it
-pub ready-first : {ls : List (List ℕ)} (n : ℕ) (line : FirstLine) → Shaped line → n + 3 * room_of ls + 132 ≤ 98440 → Ready ls line.count (n + 4)
-ready-first n line shape room = record { some-axis = shape.usable.some-axis; at-most-four = shape.usable.at-most-four; room = omega arith }
+pub ready-first : {ls : List (List ℕ)} (n size : ℕ) (line : FirstLine) → Shaped line → (room_of ls ≤ 32769) × (n + 3 * room_of ls + 132 ≤ size) → Ready ls line.count (n + 4) size
+ready-first n size line shape room = record { some-axis = shape.usable.some-axis; at-most-four = shape.usable.at-most-four; short = room.0; room = omega (arith, room.1) }
 
 module _ (h : Head) (count : ℕ) (ls : List (List ℕ)) (old new : List ℕ) where
   pub shape-read : first_refusal (limit_checks 512 count h.dims) ≡ 0 → Wrote old (second h ls) new → Wrote old (from_shape h count ls) new
@@ -271,9 +271,9 @@ module _ (input spare : List ℕ) (k : Kept (length input) (length spare)) (page
     worked e f w = rw (whole, le-ltb 32768 (length input) k.most, ← e, f) (alone w)
 
 -- the room for what is printed of an input that is not too long
-pub room-first : (input spare page : List ℕ) (ls ms : List (List ℕ)) → Kept (length input) (length spare) → page ≡ [] → ls ≡ lines input → room_of ms < room_of ls
-    → length page + 3 * room_of ms + 132 ≤ 98440
-room-first input spare page ls ms k clear e l =
+pub room-first : (input spare page : List ℕ) (ls ms : List (List ℕ)) (size : ℕ) → Kept (length input) (length spare) × (98440 ≤ size) → page ≡ [] → ls ≡ lines input → room_of ms < room_of ls
+    → (room_of ms ≤ 32769) × (length page + 3 * room_of ms + 132 ≤ size)
+room-first input spare page ls ms size k clear e l =
     let n : room_of ls ≤ length input + 1 = rw e (omega (arith, room-lines input)) in
     let z : length page ≡ 0 = ap length clear in
-    omega (arith, k.most)
+    (omega (arith, k.0.most), omega (arith, k.0.most, k.1))

@@ -17,21 +17,21 @@ use Rattle.map_spline.specs.Surface.{Surface, asked_number, asked_value, asked_g
 use Rattle.map_work.specs.Program.{one_if, answer, queries}
 use Rattle.map_work.specs.Steps.{Ready, Answered}
 
--- of the query lines `start`, those of `left` are still to be read; what was printed is `now`
-pub record Asking (s : Surface) (start : List (List ℕ)) (old : List ℕ) (left : List (List ℕ)) (now : List ℕ) (asked outside : ℕ) : Type 0 where
-  pub room : length now + 3 * room_of left + 128 ≤ 98440
+-- of the query lines `start`, those of `left` are still to be read; what was printed is `now`, on a page of `most`
+pub record Asking (s : Surface) (start : List (List ℕ)) (old : List ℕ) (left : List (List ℕ)) (now : List ℕ) (asked outside most : ℕ) : Type 0 where
+  pub room : length now + 3 * room_of left + 128 ≤ most
   pub few : asked + room_of left ≤ 32771
   pub part : outside ≤ asked
   pub text : now ++ queries s asked outside left ≡ old ++ queries s 0 0 start
 
-pub Asking-start : (s : Surface) (ls : List (List ℕ)) (old : List ℕ) (axes : ℕ) → Ready ls axes (length old) → Asking s ls old ls old 0 0
-Asking-start s ls old axes r = record { room = r.room; few = omega (arith, r.room); part = omega arith; text = refl }
+pub Asking-start : (s : Surface) (ls : List (List ℕ)) (old : List ℕ) (axes most : ℕ) → Ready ls axes (length old) most → Asking s ls old ls old 0 0 most
+Asking-start s ls old axes most r = record { room = r.room; few = omega (arith, r.short); part = omega arith; text = refl }
 
-module _ (s : Surface) (start : List (List ℕ)) (old : List ℕ) (left : List (List ℕ)) (now : List ℕ) (asked outside : ℕ) (h : Asking s start old left now asked outside) where
+module _ (s : Surface) (start : List (List ℕ)) (old : List ℕ) (left : List (List ℕ)) (now : List ℕ) (asked outside most : ℕ) (h : Asking s start old left now asked outside most) where
   module _ (line : List ℕ) (next : List (List ℕ)) (e : left ≡ line ∷ next) where
     module _ (new : List ℕ) where
       pub Asking-step : (side : Bool) (axes : ℕ) → axes ≡ s.spline.axes → 1 ≤ axes → axes ≤ 4 → (r : ℕ) → r ≡ outside + one_if side → Answered line s now side new
-          → Asking s start old next new (asked + 1) r
+          → Asking s start old next new (asked + 1) r most
       unfolding queries room_of row_in rest
       Asking-step side axes same one four r w a =
           let long : 17 * s.spline.axes + room_of next ≤ room_of left = go left e a.read in

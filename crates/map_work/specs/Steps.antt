@@ -11,12 +11,13 @@ use Rattle.map_print.specs.Print.{Wrote, map_line}
 use Rattle.map_spline.specs.Surface.{Surface, asked_outside}
 use Rattle.map_work.specs.Program.{answer, second}
 
--- with n bytes printed, the rest can be: a readable query line of k floats has at least 17 k bytes with its newline, and its
--- answer at most 21 + 17 k, so three bytes out for one in are enough, and 128 for the turn in hand
-pub record Ready (ls : List (List ℕ)) (axes n : ℕ) : Type 0 where
+-- with n bytes printed of a page of `size`, the rest can be: a readable query line of k floats has at least 17 k bytes with its
+-- newline, and its answer at most 21 + 17 k, so three bytes out for one in are enough, and 128 for the turn in hand
+pub record Ready (ls : List (List ℕ)) (axes n size : ℕ) : Type 0 where
+  pub short : room_of ls ≤ 32769
   pub some-axis : 1 ≤ axes
   pub at-most-four : axes ≤ 4
-  pub room : n + 3 * room_of ls + 128 ≤ 98440
+  pub room : n + 3 * room_of ls + 128 ≤ size
 
 -- a query line is read as the floats x, and its answer printed
 pub record Answered (line : List ℕ) (s : Surface) (old : List ℕ) (outside : Bool) (new : List ℕ) : Type 0 where

@@ -53,9 +53,15 @@ impl ShapedLine {
 
 // The map, and the queries. That there is room for what is still to print is a fact of the lines left and the page together; no
 // struct has the two, so here and below it is required of both.
-fn fitted(lines: Lines<'_>, shaped: ShapedLine, row: &[f64], samples: &[f64], page: &mut Page)
+fn fitted<const N: usize>(
+    lines: Lines<'_>,
+    shaped: ShapedLine,
+    row: &[f64],
+    samples: &[f64],
+    page: &mut Page<N>,
+)
     requires lengths { (length row.now ≡ row_length (head_of shaped.line)) × (length samples.now ≡ size (head_of shaped.line).dims) }
-    requires ready { Ready lines shaped.line.count (length page.old + 4) }
+    requires ready { Ready lines shaped.line.count (length page.old + 4) N }
     ensures { Wrote page.old (fitted (head_of shaped.line) row.now samples.now lines.entry) page.new }
 {
     let line = shaped.line;
@@ -72,9 +78,9 @@ fn fitted(lines: Lines<'_>, shaped: ShapedLine, row: &[f64], samples: &[f64], pa
 }
 
 // From line 3 on: as many samples as the map has points.
-fn third(mut lines: Lines<'_>, shaped: ShapedLine, row: &[f64], page: &mut Page)
+fn third<const N: usize>(mut lines: Lines<'_>, shaped: ShapedLine, row: &[f64], page: &mut Page<N>)
     requires row_length { length row.now ≡ row_length (head_of shaped.line) }
-    requires ready { Ready lines shaped.line.count (length page.old + 4) }
+    requires ready { Ready lines shaped.line.count (length page.old + 4) N }
     ensures { Wrote page.old (third (head_of shaped.line) row.now lines.entry) page.new }
 {
     let n = shaped.points();
@@ -87,8 +93,8 @@ fn third(mut lines: Lines<'_>, shaped: ShapedLine, row: &[f64], page: &mut Page)
 }
 
 // From line 2 on.
-fn second(mut lines: Lines<'_>, shaped: ShapedLine, page: &mut Page)
-    requires { Ready lines shaped.line.count (length page.old + 4) }
+fn second<const N: usize>(mut lines: Lines<'_>, shaped: ShapedLine, page: &mut Page<N>)
+    requires { Ready lines shaped.line.count (length page.old + 4) N }
     ensures { Wrote page.old (second (head_of shaped.line) lines.entry) page.new }
 {
     let n = shaped.row_len();
@@ -116,8 +122,8 @@ fn check_shape(count: usize, dims: [usize; 4]) -> Result<(), Refusal>
 }
 
 // The map's shape is refused, or line 2 is read.
-fn shaped(lines: Lines<'_>, line: FirstLine, page: &mut Page)
-    requires { length page.old + 3 * room_of lines + 132 ≤ 98440 }
+fn shaped<const N: usize>(lines: Lines<'_>, line: FirstLine, page: &mut Page<N>)
+    requires { (room_of lines ≤ 32769) × (length page.old + 3 * room_of lines + 132 ≤ N) }
     ensures { Wrote page.old (from_shape (head_of line) line.count lines.entry) page.new }
 {
     let dims = line.dims;
@@ -137,8 +143,8 @@ fn first_line(lines: &mut Lines<'_>) -> Option<FirstLine>
 
 // The work on what was read: what is printed stands on the page, and what stood there before does not. `spare` is what a further
 // read got; where it got anything, the input is too long.
-pub fn work_on(input: &[u8], spare: &[u8], page: &mut Page)
-    requires { Kept (length input.now) (length spare.now) }
+pub fn work_on<const N: usize>(input: &[u8], spare: &[u8], page: &mut Page<N>)
+    requires { Kept (length input.now) (length spare.now) × (98440 ≤ N) }
     ensures { page.new ≡ program (input.now ++ spare.now) }
 {
     page.clear();

@@ -17,8 +17,8 @@ fn bump(n: u64, b: bool) -> u64
 }
 
 // Asks a query, and prints what it answers; whether it counts as outside.
-fn answer(map: &FittedMap<'_>, x: &[f64], page: &mut Page) -> bool
-    requires { (length x.now ≡ (surface_in map.now).spline.axes) × (length x.now ≤ 4) × (length page.old + 89 ≤ 98440) }
+fn answer<const N: usize>(map: &FittedMap<'_>, x: &[f64], page: &mut Page<N>) -> bool
+    requires { (length x.now ≡ (surface_in map.now).spline.axes) × (length x.now ≤ 4) × (length page.old + 89 ≤ N) }
     ensures text { Wrote page.old (answer (surface_in map.now) x.now) page.new }
     ensures side { result ≡ asked_outside (surface_in map.now) x.now }
 {
@@ -36,8 +36,13 @@ fn answer(map: &FittedMap<'_>, x: &[f64], page: &mut Page) -> bool
 }
 
 // One query line, of `count` floats: whether the query counts as outside, where the line can be read.
-fn ask_line(line: &[u8], count: usize, map: &FittedMap<'_>, page: &mut Page) -> Option<bool>
-    requires { (count ≡ (surface_in map.now).spline.axes) × (count ≤ 4) × (length page.old + 89 ≤ 98440) }
+fn ask_line<const N: usize>(
+    line: &[u8],
+    count: usize,
+    map: &FittedMap<'_>,
+    page: &mut Page<N>,
+) -> Option<bool>
+    requires { (count ≡ (surface_in map.now).spline.axes) × (count ≤ 4) × (length page.old + 89 ≤ N) }
     ensures { Asked line.now (surface_in map.now) page.old result page.new }
 {
     let mut x = [0.0f64; 4];
@@ -47,8 +52,8 @@ fn ask_line(line: &[u8], count: usize, map: &FittedMap<'_>, page: &mut Page) -> 
 }
 
 // The queries, and the last line.
-pub fn run(lines: Lines<'_>, count: usize, map: &FittedMap<'_>, page: &mut Page)
-    requires { Ready lines count (length page.old) × (count ≡ (surface_in map.now).spline.axes) }
+pub fn run<const N: usize>(lines: Lines<'_>, count: usize, map: &FittedMap<'_>, page: &mut Page<N>)
+    requires { Ready lines count (length page.old) N × (count ≡ (surface_in map.now).spline.axes) }
     ensures { Wrote page.old (queries (surface_in map.now) 0 0 lines.entry) page.new }
 {
     let mut asked: u64 = 0;

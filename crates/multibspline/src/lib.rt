@@ -1,5 +1,8 @@
 // What both grids share: the rows of the Thomas algorithm on one line of a map, and where a query lies on an axis. These are
 // inner functions of the library; a caller uses `regular` or `rectilinear`.
+//
+// That a line lies within a buffer is a fact of both, and the buffers change from call to call: a record of the two would be made
+// for each. `LineInside` and `LineRoom` say it in a word.
 #![tactic(auto)]
 
 mod back;

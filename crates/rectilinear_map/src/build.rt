@@ -57,7 +57,7 @@ pub fn blank() -> MultiBsplineRectilinear
     let high = no_ghosts();
     MultiBsplineRectilinear {
         count: 0,
-        dims: dims,
+        dims,
         low_ghost_coeffs: low,
         high_ghost_coeffs: high,
         linearize_extrapolation: false,

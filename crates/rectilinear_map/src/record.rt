@@ -41,8 +41,7 @@ impl MultiBsplineRectilinear {
     pub fn check(self, grid: &[f64], coeffs: &[f64]) -> Result<(), Refusal>
         ensures { answer_number result ≡ map_answer self.count self.dims grid.now (length coeffs.now) }
     {
-        let dims = self.dims;
-        build::check_map(self.count, dims, grid, coeffs.len())
+        build::check_map(self.count, self.dims, grid, coeffs.len())
     }
 
     // How far apart two neighbours on an axis are among the coefficients: 1 on the last axis. 0 where the shape is refused
@@ -53,7 +52,7 @@ impl MultiBsplineRectilinear {
         let dims = self.dims;
         let shape = Shape {
             count: self.count,
-            dims: dims,
+            dims,
         };
         shape.stride(axis)
     }
@@ -63,8 +62,7 @@ impl MultiBsplineRectilinear {
     pub fn place(self, grid: &[f64], axis: usize, x: f64) -> Result<Loc, Refusal>
         ensures { RectilinearPlaced self.count self.dims grid.now axis x result }
     {
-        let dims = self.dims;
-        place::place(self.count, dims, grid, axis, x)
+        place::place(self.count, self.dims, grid, axis, x)
     }
 
     // The value at a query of one coordinate an axis, or the first of these refusals: 1, 2, 3 for the record's shape; 2, the

@@ -1,5 +1,7 @@
 // The four weights on a span of a rectilinear axis: their slopes and their third derivatives. After interpn's
 // multibspline::rectilinear.
+//
+// `grid`, `span` and `x` stay apart, with the bounds of each: these are interpn's functions with interpn's parameters.
 #![tactic(auto)]
 
 mod slopes;

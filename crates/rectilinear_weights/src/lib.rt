@@ -1,5 +1,7 @@
 // One rectilinear axis: the four weights of a query at each place, their slopes, and the ghost coefficients. After interpn's
 // multibspline::rectilinear.
+//
+// `grid`, `span` and `x` stay apart, with the bounds of each: these are interpn's functions with interpn's parameters.
 #![tactic(auto)]
 
 mod ghosts;

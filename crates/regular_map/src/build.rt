@@ -55,9 +55,9 @@ pub fn blank() -> MultiBsplineRegular
     let steps = [0.0, 0.0, 0.0, 0.0];
     MultiBsplineRegular {
         count: 0,
-        dims: dims,
-        starts: starts,
-        steps: steps,
+        dims,
+        starts,
+        steps,
         linearize_extrapolation: false,
     }
 }

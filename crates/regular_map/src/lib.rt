@@ -1,5 +1,8 @@
 // Regular maps: the record, building, values, gradients and batches, double precision. After interpn's
 // multibspline::regular.
+//
+// The axis count, lengths, starts and steps, and the buffers of a fit, are parameters in interpn's order, which the C interface
+// has.
 #![tactic(auto)]
 
 mod build;

@@ -36,9 +36,7 @@ impl MultiBsplineRegular {
     pub fn check(self, coeffs: &[f64]) -> Result<(), Refusal>
         ensures { answer_number result ≡ map_answer self.count self.dims self.steps (length coeffs.now) }
     {
-        let dims = self.dims;
-        let steps = self.steps;
-        build::check_map(self.count, dims, steps, coeffs.len())
+        build::check_map(self.count, self.dims, self.steps, coeffs.len())
     }
 
     // How far apart two neighbours on an axis are among the coefficients: 1 on the last axis. 0 where the shape is refused
@@ -49,7 +47,7 @@ impl MultiBsplineRegular {
         let dims = self.dims;
         let shape = Shape {
             count: self.count,
-            dims: dims,
+            dims,
         };
         shape.stride(axis)
     }
@@ -59,10 +57,7 @@ impl MultiBsplineRegular {
     pub fn place(self, axis: usize, x: f64) -> Result<(Saturation, usize), Refusal>
         ensures { RegularPlaced binary64 self.count self.dims self.starts self.steps axis x result }
     {
-        let dims = self.dims;
-        let starts = self.starts;
-        let steps = self.steps;
-        place::place(self.count, dims, starts, steps, axis, x)
+        place::place(self.count, self.dims, self.starts, self.steps, axis, x)
     }
 
     // The value at a query of one coordinate an axis, or the first of these refusals: 1, 2, 3 for the record's shape; 2, the
@@ -109,10 +104,9 @@ impl MultiBsplineRegular {
     ) -> Result<MultiBsplineRegular, Refusal>
         ensures { RegularBuilt (map_answer shape.count shape.dims steps (length coeffs.now)) shape.count shape.dims starts steps linearize_extrapolation result }
     {
-        let dims = shape.dims;
         build::build(
             shape.count,
-            dims,
+            shape.dims,
             starts,
             steps,
             linearize_extrapolation,
@@ -136,10 +130,9 @@ impl MultiBsplineRegular {
             shape.count shape.dims starts steps linearize_extrapolation result }
         ensures regular_fit_leaves { RegularFitLeaves binary64 shape.count shape.dims vals.now coeffs.old scratch.old coeffs.new scratch.new }
     {
-        let dims = shape.dims;
         build::from_values(
             shape.count,
-            dims,
+            shape.dims,
             starts,
             steps,
             linearize_extrapolation,

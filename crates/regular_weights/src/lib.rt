@@ -1,4 +1,6 @@
 // One regular axis: the place of a query, its four weights and their slopes. After interpn's multibspline::regular.
+//
+// `t`, `sat` and the flag stay apart: these are interpn's functions with interpn's parameters.
 #![tactic(auto)]
 
 mod place;

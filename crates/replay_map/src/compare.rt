@@ -10,7 +10,7 @@ fn is_printed_for(input: &[u8], spare: &[u8], expected: &[u8]) -> bool
     requires { Kept (length input.now) (length spare.now) }
     ensures { result ≡ true → program (input.now ++ spare.now) ≡ expected.now }
 {
-    let mut page = Page::new();
+    let mut page: Page<98440> = Page::new();
     map_work::work_on(input, spare, &mut page);
     page.as_bytes() == expected
 }

@@ -21,16 +21,14 @@ impl Axes {
     pub fn points(self) -> usize
         ensures { result ≡ size (take self.count self.dims) }
     {
-        let dims = self.dims;
-        span(&dims[..self.count])
+        span(&self.dims[..self.count])
     }
 
     // The length of the longest axis.
     pub fn longest(self) -> usize
         ensures { result ≡ longest (take self.count self.dims) }
     {
-        let dims = self.dims;
-        longest_of(&dims[..self.count])
+        longest_of(&self.dims[..self.count])
     }
 
     // How much scratch a fit needs, twice the longest axis.
@@ -45,8 +43,7 @@ impl Axes {
         requires { axis < self.count }
         ensures { result ≡ stride (take self.count self.dims) axis }
     {
-        let dims = self.dims;
-        span(&dims[axis + 1..self.count])
+        span(&self.dims[axis + 1..self.count])
     }
 
     // How many lines an axis has.
@@ -54,8 +51,7 @@ impl Axes {
         requires { axis < self.count }
         ensures { result ≡ lines (take self.count self.dims) axis }
     {
-        let dims = self.dims;
-        span(&dims[..axis]) * self.stride(axis)
+        span(&self.dims[..axis]) * self.stride(axis)
     }
 
     // The numbers of a line, unless there is no such axis or line.
@@ -68,8 +64,7 @@ impl Axes {
         if self.lines(axis) <= line {
             return None;
         }
-        let dims = self.dims;
-        let n = dims[axis];
+        let n = self.dims[axis];
         let stride = self.stride(axis);
         let base = first_cell_of(n, stride, line);
         let longest = self.longest();

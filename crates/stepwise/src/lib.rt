@@ -5,6 +5,8 @@
 //
 // Coefficients, ledger and scratch stay three slices: C lends each by itself, begin is handed no scratch, and the fit knows no
 // ledger. A struct of them would be made in eight calls and taken apart in four, for the six in between.
+//
+// The rows of lent buffers are the C interface's, and stay: each call takes what C hands it.
 #![tactic(auto)]
 
 mod list;

@@ -5,15 +5,15 @@ use Rattle.map_print.proofs.Printing.{grown, length-floats_text, floats-start, f
 use Rattle.map_print.proofs.page.Page.put_floats.Goals as goal
 
 pub loop-x-init : goal.loop-x-init
-loop-x-init c = floats-start _ c.args.xs.now
+loop-x-init _ c = floats-start _ c.args.xs.now
 
 pub put_float-requires : goal.put_float-requires
-put_float-requires c =
+put_float-requires _ c =
     let n = length-take-le c.loop-x.x-index c.args.xs.now (omega (arith, c.loop-x-test.true)) in
     omega (arith, c.requires, c.loop-x-test.true, grown c.loop-x.invariant, length-floats_text (take c.loop-x.x-index c.args.xs.now), n)
 
 pub loop-x-preserved : goal.loop-x-preserved
-loop-x-preserved c = floats-more _ _ _ _ _ c.loop-x-test.true c.loop-x.invariant c.put_float.ensures
+loop-x-preserved _ c = floats-more _ _ _ _ _ c.loop-x-test.true c.loop-x.invariant c.put_float.ensures
 
 pub returns : goal.returns
-returns c = floats-done _ _ _ _ c.loop-x-test.false c.loop-x.invariant
+returns _ c = floats-done _ _ _ _ c.loop-x-test.false c.loop-x.invariant

@@ -4,10 +4,10 @@ use Rattle.map_print.proofs.Printing.{grown, Wrote-then, Wrote-as, values-text, 
 use Rattle.map_print.proofs.page.Page.put_values.Goals as goal
 
 pub put_floats-requires : goal.put_floats-requires
-put_floats-requires c = omega (arith, c.requires, grown c.put_head.ensures, grown c.push.ensures, grown c.put_float.ensures, length-float_text c.args.value)
+put_floats-requires _ c = omega (arith, c.requires, grown c.put_head.ensures, grown c.push.ensures, grown c.put_float.ensures, length-float_text c.args.value)
 
 pub push-requires-2 : goal.push-requires-2
-push-requires-2 c =
+push-requires-2 _ c =
     omega (
       arith,
       c.requires,
@@ -20,6 +20,6 @@ push-requires-2 c =
     )
 
 pub returns : goal.returns
-returns c =
+returns _ c =
     Wrote-as (sym (values-text _ _))
     (Wrote-then c.put_head.ensures (Wrote-then c.push.ensures (Wrote-then c.put_float.ensures (Wrote-then c.put_floats.ensures c.push-2.ensures))))
