@@ -64,7 +64,11 @@ impl MultiBsplineRectilinear {
         ensures { RectilinearPlaced self.count self.dims grid.now axis x result }
     {
         let dims = self.dims;
-        place::place(self.count, dims, grid, axis, x)
+        let shape = Shape {
+            count: self.count,
+            dims: dims,
+        };
+        place::place(shape, grid, axis, x)
     }
 
     // The value at a query of one coordinate an axis, or the first of these refusals: 1, 2, 3 for the record's shape; 2, the

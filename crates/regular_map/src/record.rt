@@ -59,10 +59,7 @@ impl MultiBsplineRegular {
     pub fn place(self, axis: usize, x: f64) -> Result<(Saturation, usize), Refusal>
         ensures { RegularPlaced binary64 self.count self.dims self.starts self.steps axis x result }
     {
-        let dims = self.dims;
-        let starts = self.starts;
-        let steps = self.steps;
-        place::place(self.count, dims, starts, steps, axis, x)
+        place::place(self, axis, x)
     }
 
     // The value at a query of one coordinate an axis, or the first of these refusals: 1, 2, 3 for the record's shape; 2, the
