@@ -47,11 +47,6 @@ returns-in_err-parts g c =
     (rw f.1.0 at c.in_err-parts.ensures _))
     (put_refused c.in_err-parts.field-0.0 refl))
 
-pub put_parts-requires : goal.put_parts-requires
-put_parts-requires g c =
-    let f = c.in_ok-map.ensures in
-    (rw c.count-axes.ensures (rw f.1.0 f.1.1.shape.at-most-four), omega arith, omega (arith, c.if-slopes-axes.false))
-
 pub returns : goal.returns
 returns g c =
     let a = c.args in
