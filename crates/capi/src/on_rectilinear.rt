@@ -1,20 +1,19 @@
 // Maps on a rectilinear grid: `grid` has the knots of each axis, axis after axis.
 ghost use Rattle.std.specs.Prelude.{◌≡◌, length};
 ghost use Rattle.std.specs.Float.{binary64};
-ghost use Rattle.shape.specs.Refusal.{answer_number};
 ghost use Rattle.evaluation.specs.Axes.{query};
 ghost use Rattle.evaluation.specs.Spline.{one_answer};
 ghost use Rattle.evaluation.specs.Batch.{gradient_step, ValueBatch, GradientBatch};
 ghost use Rattle.rectilinear.specs.Fit.{RectilinearFitted};
-ghost use Rattle.rectilinear_map.specs.Records.{map_of};
-ghost use Rattle.rectilinear_blocks.specs.Eval.{map_answer, grid_answer};
+ghost use Rattle.rectilinear_blocks.specs.Eval.{map_answer};
 ghost use Rattle.capi_parts.specs.Inputs.{lens_of, is_on};
 ghost use Rattle.capi_parts.specs.Outputs.{Wrote};
 ghost use Rattle.capi_parts.specs.Splines.{with_slopes};
-ghost use Rattle.capi_parts.specs.Rectilinear.{rectilinear_map, rectilinear_spline};
+ghost use Rattle.capi_parts.specs.Rectilinear.{rectilinear_spline};
 
-use capi_parts::{else_mismatch, number, put_gradient, put_value, rectilinear_map_of, shape_of};
-use rectilinear_map::MultiBsplineRectilinear;
+use capi_parts::{check, gradient, number, shape_of, value_at};
+use map_calls::{interp, interp_grad};
+use rectilinear_map::{ByGrid, WithGhosts};
 
 #[unsafe(no_mangle)]
 pub extern "C" fn corvezan_rectilinear_fit(
@@ -34,8 +33,12 @@ pub extern "C" fn corvezan_rectilinear_fit(
 pub extern "C" fn corvezan_rectilinear_check(dims: &[usize], grid: &[f64], coeffs_len: usize) -> u32
     ensures { result ≡ map_answer (length dims.now) (lens_of dims.now) grid.now coeffs_len }
 {
-    let shape = shape_of(dims);
-    number(rectilinear_map::check_map(shape.count, shape.dims, grid, coeffs_len))
+    let map = ByGrid {
+        shape: shape_of(dims),
+        grid,
+        linear: false,
+    };
+    number(check(map, coeffs_len))
 }
 
 #[unsafe(no_mangle)]
@@ -52,11 +55,12 @@ pub extern "C" fn corvezan_rectilinear_value(
         ((rectilinear_spline binary64 dims.now grid.now (is_on linear) coeffs.now).value (query (length dims.now) x.now 1 0))
         value.old result value.new }
 {
-    let shape = shape_of(dims);
-    put_value(
-        MultiBsplineRectilinear::value_of_grid(shape, grid, coeffs, linear != 0, x),
-        value,
-    )
+    let map = ByGrid {
+        shape: shape_of(dims),
+        grid,
+        linear: linear != 0,
+    };
+    number(value_at(map, coeffs, x, value))
 }
 
 #[unsafe(no_mangle)]
@@ -73,14 +77,12 @@ pub extern "C" fn corvezan_rectilinear_gradient(
         (gradient_step (rectilinear_spline binary64 dims.now grid.now (is_on linear) coeffs.now) x.now 1 0 slopes.old)
         slopes.old result slopes.new }
 {
-    if slopes.len() != dims.len() {
-        return else_mismatch(corvezan_rectilinear_check(dims, grid, coeffs.len()));
-    }
-    let map = match rectilinear_map_of(dims, grid, linear) {
-        Ok(map) => map,
-        Err(refusal) => return number(Err(refusal)),
+    let map = WithGhosts {
+        shape: shape_of(dims),
+        grid,
+        linear: linear != 0,
     };
-    put_gradient(map.interp_one_grad(grid, coeffs, x), slopes)
+    number(gradient(map, coeffs, x, slopes))
 }
 
 #[unsafe(no_mangle)]
@@ -94,11 +96,12 @@ pub extern "C" fn corvezan_rectilinear_values(
 ) -> u32
     ensures { ValueBatch (rectilinear_spline binary64 dims.now grid.now (is_on linear) coeffs.now) x.now values.old result values.new }
 {
-    let map = match rectilinear_map_of(dims, grid, linear) {
-        Ok(map) => map,
-        Err(refusal) => return number(Err(refusal)),
+    let map = WithGhosts {
+        shape: shape_of(dims),
+        grid,
+        linear: linear != 0,
     };
-    number(map.interp(grid, coeffs, x, values))
+    number(interp(map, coeffs, x, values))
 }
 
 #[unsafe(no_mangle)]
@@ -112,9 +115,10 @@ pub extern "C" fn corvezan_rectilinear_gradients(
 ) -> u32
     ensures { GradientBatch (rectilinear_spline binary64 dims.now grid.now (is_on linear) coeffs.now) x.now slopes.old result slopes.new }
 {
-    let map = match rectilinear_map_of(dims, grid, linear) {
-        Ok(map) => map,
-        Err(refusal) => return number(Err(refusal)),
+    let map = WithGhosts {
+        shape: shape_of(dims),
+        grid,
+        linear: linear != 0,
     };
-    number(map.interp_grad(grid, coeffs, x, slopes))
+    number(interp_grad(map, coeffs, x, slopes))
 }

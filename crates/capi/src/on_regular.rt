@@ -2,22 +2,17 @@
 ghost use Rattle.std.specs.Prelude.{◌≡◌, length};
 ghost use Rattle.std.specs.Float.{binary64};
 ghost use Rattle.shape.specs.Checks.{first_refusal};
-ghost use Rattle.shape.specs.Refusal.{answer_number};
 ghost use Rattle.evaluation.specs.Axes.{query};
 ghost use Rattle.evaluation.specs.Spline.{one_answer};
 ghost use Rattle.evaluation.specs.Batch.{gradient_step, ValueBatch, GradientBatch};
 ghost use Rattle.regular.specs.Fit.{RegularFitted};
-ghost use Rattle.regular_map.specs.Records.{map_of};
 ghost use Rattle.capi_parts.specs.Inputs.{lens_of, is_on};
 ghost use Rattle.capi_parts.specs.Outputs.{Wrote};
 ghost use Rattle.capi_parts.specs.Splines.{with_slopes};
-ghost use Rattle.capi_parts.specs.Regular.{grid_ready_checks, regular_checks, regular_map, regular_spline, FromValues};
+ghost use Rattle.capi_parts.specs.Regular.{regular_checks, regular_spline, FromValues};
 
-use capi_parts::{
-    check_grid, else_mismatch, four_from, number, put_gradient, put_value, regular_map_of, shape_of,
-};
-use regular_map::MultiBsplineRegular;
-use shape::Refusal;
+use capi_parts::{RegularFromC, check, from_values, gradient, number, shape_of, value_at};
+use map_calls::{interp, interp_grad};
 
 #[unsafe(no_mangle)]
 pub extern "C" fn corvezan_regular_fit(
@@ -36,12 +31,12 @@ pub extern "C" fn corvezan_regular_fit(
 pub extern "C" fn corvezan_regular_check(dims: &[usize], grid: &[f64], coeffs_len: usize) -> u32
     ensures { result ≡ first_refusal (regular_checks dims.now grid.now coeffs_len) }
 {
-    let refused = number(check_grid(dims, grid));
-    if refused != 0 {
-        return refused;
-    }
-    let map = regular_map_of(dims, grid, 0);
-    number(regular_map::check_map(map.count, map.dims, map.steps, coeffs_len))
+    let map = RegularFromC {
+        dims,
+        grid,
+        linear: false,
+    };
+    number(check(map, coeffs_len))
 }
 
 #[unsafe(no_mangle)]
@@ -54,22 +49,9 @@ pub extern "C" fn corvezan_regular_from_values(
 ) -> u32
     ensures { FromValues binary64 dims.now grid.now vals.now coeffs.old scratch.old result coeffs.new scratch.new }
 {
-    let refused = number(check_grid(dims, grid));
-    if refused != 0 {
-        return refused;
-    }
-    let shape = shape_of(dims);
-    let starts = four_from(grid, 0);
-    let steps = four_from(grid, dims.len());
-    match MultiBsplineRegular::from_values_with_workspace(
-        shape, starts, steps, vals, coeffs, scratch, false,
-    ) {
-        Ok(_) => 0,
-        Err(refusal) => number(Err(refusal)),
-    }
+    number(from_values(dims, grid, vals, coeffs, scratch))
 }
 
-// A call that evaluates the map looks at the shape itself: only a grid of another length is left to refuse here, by the shape first.
 #[unsafe(no_mangle)]
 pub extern "C" fn corvezan_regular_value(
     dims: &[usize],
@@ -84,11 +66,12 @@ pub extern "C" fn corvezan_regular_value(
         ((regular_spline binary64 dims.now grid.now (is_on linear) coeffs.now).value (query (length dims.now) x.now 1 0))
         value.old result value.new }
 {
-    if grid.len() != 2 * dims.len() {
-        return number(check_grid(dims, grid));
-    }
-    let map = regular_map_of(dims, grid, linear);
-    put_value(map.interp_one(coeffs, x), value)
+    let map = RegularFromC {
+        dims,
+        grid,
+        linear: linear != 0,
+    };
+    number(value_at(map, coeffs, x, value))
 }
 
 #[unsafe(no_mangle)]
@@ -105,16 +88,12 @@ pub extern "C" fn corvezan_regular_gradient(
         (gradient_step (regular_spline binary64 dims.now grid.now (is_on linear) coeffs.now) x.now 1 0 slopes.old)
         slopes.old result slopes.new }
 {
-    if slopes.len() != dims.len() {
-        return else_mismatch(corvezan_regular_check(dims, grid, coeffs.len()));
-    }
-    // the shape too: no more than four slopes are written
-    let refused = number(check_grid(dims, grid));
-    if refused != 0 {
-        return refused;
-    }
-    let map = regular_map_of(dims, grid, linear);
-    put_gradient(map.interp_one_grad(coeffs, x), slopes)
+    let map = RegularFromC {
+        dims,
+        grid,
+        linear: linear != 0,
+    };
+    number(gradient(map, coeffs, x, slopes))
 }
 
 #[unsafe(no_mangle)]
@@ -128,11 +107,12 @@ pub extern "C" fn corvezan_regular_values(
 ) -> u32
     ensures { ValueBatch (regular_spline binary64 dims.now grid.now (is_on linear) coeffs.now) x.now values.old result values.new }
 {
-    if grid.len() != 2 * dims.len() {
-        return number(check_grid(dims, grid));
-    }
-    let map = regular_map_of(dims, grid, linear);
-    number(map.interp(coeffs, x, values))
+    let map = RegularFromC {
+        dims,
+        grid,
+        linear: linear != 0,
+    };
+    number(interp(map, coeffs, x, values))
 }
 
 #[unsafe(no_mangle)]
@@ -146,9 +126,10 @@ pub extern "C" fn corvezan_regular_gradients(
 ) -> u32
     ensures { GradientBatch (regular_spline binary64 dims.now grid.now (is_on linear) coeffs.now) x.now slopes.old result slopes.new }
 {
-    if grid.len() != 2 * dims.len() {
-        return number(check_grid(dims, grid));
-    }
-    let map = regular_map_of(dims, grid, linear);
-    number(map.interp_grad(coeffs, x, slopes))
+    let map = RegularFromC {
+        dims,
+        grid,
+        linear: linear != 0,
+    };
+    number(interp_grad(map, coeffs, x, slopes))
 }

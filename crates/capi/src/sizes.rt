@@ -6,7 +6,7 @@ ghost use Rattle.shape.specs.Sizes.{coeff_storage_len, construction_scratch_len,
 ghost use Rattle.capi_parts.specs.Inputs.{lens_of};
 ghost use Rattle.capi_parts.specs.Outputs.{Wrote};
 
-use capi_parts::{number, shape_of};
+use capi_parts::{number, put, shape_of};
 
 #[unsafe(no_mangle)]
 pub extern "C" fn corvezan_check_shape(dims: &[usize]) -> u32
@@ -58,11 +58,5 @@ pub extern "C" fn corvezan_first_cell(
     ensures { Wrote (first_cell_answer (length dims.now) (lens_of dims.now) axis line) (first (take (length dims.now) (lens_of dims.now)) axis line) cell.old result cell.new }
 {
     let shape = shape_of(dims);
-    match shape.first_cell(axis, line) {
-        Ok(at) => {
-            *cell = at;
-            0
-        }
-        Err(refusal) => number(Err(refusal)),
-    }
+    number(put(shape.first_cell(axis, line), cell))
 }

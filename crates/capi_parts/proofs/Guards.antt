@@ -1,6 +1,6 @@
 -- A call that is refused before the library is asked, and one check more in a list of checks. Assumes nothing.
 --     n        what the call has answered so far
-use Rattle.std.specs.Prelude.{Result, Ok, Err}
+use Rattle.std.specs.Prelude.{Result}
 use mathlib.Core.Path.{◌≡◌, refl, sym, ap, ◌∙◌}
 use mathlib.Core.Bool.{Bool, true, false, cond}
 use mathlib.Core.List.{List, [], ◌∷◌, ◌++◌}
@@ -9,7 +9,7 @@ use native.Mathlib.Omega.{arith}
 use lib.Dec.{eqb}
 use lib.ListN.{length, take}
 use lib.Ieee.{Float}
-use borrow.Author.Tests.{eq-eqb, ne_eqb}
+use borrow.Author.Tests.{ne_eqb}
 use Rattle.shape.specs.Shape.{first}
 use Rattle.shape.specs.Checks.{Check, first_refusal, shape_checks, length_check, Positive}
 use Rattle.shape.specs.Sizes.{first_cell_answer, FirstCellFound}
@@ -63,17 +63,16 @@ module _ {n : ℕ} (h : n ≡ 0 → ⊥) where
     unfolding one_answer
     slopes-not slopes x = refused-some (s.checks ++ length_check s.axes slopes) _ n (refused-some s.checks (length_check s.axes slopes) n e h) h
 
--- ---- a cell, or a value, put where it is asked for
+-- ---- what is found, put where it is asked for
 
-module _ {count : ℕ} {lens : List ℕ} {a l : ℕ} {r : Result ℕ Refusal} {old : ℕ} where
-  pub cell-put : {cell : ℕ} → r ≡ Ok cell → FirstCellFound count lens a l r → Wrote (first_cell_answer count lens a l) (first (take count lens) a l) old 0 cell
-  cell-put told w =
-      let z : first_cell_answer count lens a l ≡ 0 = sym w.answers ∙ ap answer_number told in
-      let b : eqb (first_cell_answer count lens a l) 0 ≡ true = eq-eqb _ 0 z in
-      record { answers = sym z; leaves = rw b (rw b at (sym (ap (answer_or 0) told) ∙ w.cell)) }
+pub twice : {A : Type 0} (b : Bool) (v z old : A) → cond b (cond b v z) old ≡ cond b v old
+twice true v z old = refl
+twice false v z old = refl
 
-  pub cell-refused : {refusal : Refusal} {n : ℕ} → r ≡ Err refusal → FirstCellFound count lens a l r → n ≡ refusal_number refusal → Wrote (first_cell_answer count lens a l) (first (take count lens) a l) old n old
-  cell-refused {refusal} told w e = wrote_nothing (λ z. refusal-some refusal (sym e ∙ z)) (e ∙ sym (ap answer_number told) ∙ w.answers)
+pub cell_put : {count : ℕ} {lens : List ℕ} {a l : ℕ} {r : Result ℕ Refusal} {old k n cell : ℕ} → FirstCellFound count lens a l r → Wrote (answer_number r) (answer_or 0 r) old k cell → n ≡ k
+    → Wrote (first_cell_answer count lens a l) (first (take count lens) a l) old n cell
+cell_put {count} {lens} {a} {l} {old = old} w p e =
+    record { answers = e ∙ p.answers ∙ w.answers; leaves = p.leaves ∙ rw (w.cell, w.answers) (twice (eqb (first_cell_answer count lens a l) 0) (first (take count lens) a l) 0 old) }
 
 -- the number of a refusal is not 0
 pub refusal-not : (r : Refusal) {n : ℕ} → n ≡ refusal_number r → n ≡ 0 → ⊥

@@ -4,3 +4,4 @@ pub mod Splines
 pub mod Regular
 pub mod Rectilinear
 pub mod Total
+pub mod Laws

@@ -2,10 +2,14 @@
 // call is accepted. `capi` exports the functions over these.
 #![tactic(auto)]
 
-mod grids;
+mod calls;
+mod fit;
 mod inputs;
+mod lent;
 mod outputs;
 
-pub use grids::{check_grid, rectilinear_map_of, regular_map_of};
-pub use inputs::{four_from, shape_of};
-pub use outputs::{else_mismatch, number, put_gradient, put_value};
+pub use calls::{check, gradient, value_at};
+pub use fit::from_values;
+pub use inputs::shape_of;
+pub use lent::RegularFromC;
+pub use outputs::{number, put};

@@ -1,10 +1,12 @@
-// A map as the calls that evaluate it are lent it: its record and its joined grid.
+// A map as the calls that evaluate it are lent it: its record and its joined grid, or the grid alone.
 ghost use Rattle.std.specs.Float.{binary64};
 ghost use Rattle.rectilinear_blocks.specs.Eval.{map_checks, rectilinear_axes};
 ghost use Rattle.rectilinear_map.specs.Laws.{numbered};
+ghost use Rattle.rectilinear_map.specs.Map.{of_grid};
 ghost use Rattle.rectilinear_map.specs.Records.{map_of};
 
 use crate::build::looked_at;
+use crate::ends::{High, Low, ghosts_of};
 use crate::record::MultiBsplineRectilinear;
 use evaluation::strides_of;
 use map_calls::Lent;
@@ -45,4 +47,38 @@ impl<'a> Lent for WithGrid<'a> {
     }
 
     ghost positive = { λ lent coefs. numbered lent.map.count lent.map.dims lent.grid.now coefs };
+}
+
+// What a caller lends who has the grid and no record, and asks more than a value: the ghost numbers of both ends of each axis are
+// worked out once, before any query is looked at. `ByGrid` (src/of_grid.rt) is for a single value; the two lend one map, but what
+// they accept differs, so that they are two.
+#[derive(Clone, Copy)]
+pub struct WithGhosts<'a> {
+    pub shape: Shape,
+    pub grid: &'a [f64],
+    pub linear: bool,
+}
+
+impl<'a> Lent for WithGhosts<'a> {
+    type Accepted = Grid<'a>;
+
+    ghost view = { λ g. rectilinear_axes binary64 (of_grid binary64 g.shape.count g.shape.dims g.grid.now g.linear) g.grid.now };
+
+    ghost checks = { λ g coefs. map_checks g.shape.count g.shape.dims g.grid.now coefs };
+
+    fn accept(self, coeffs: usize) -> Result<Grid<'a>, Refusal> {
+        let Shape { count, dims } = self.shape;
+        let axes = looked_at(self.shape, self.grid, coeffs)?;
+        Ok(Grid {
+            count,
+            dims,
+            strides: strides_of(axes),
+            knots: self.grid,
+            low: ghosts_of::<Low>(axes, self.grid),
+            high: ghosts_of::<High>(axes, self.grid),
+            linear: self.linear,
+        })
+    }
+
+    ghost positive = { λ g coefs. numbered g.shape.count g.shape.dims g.grid.now coefs };
 }

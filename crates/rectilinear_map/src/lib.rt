@@ -13,5 +13,7 @@ mod record;
 
 pub use build::{blank, check_map};
 pub use ends::no_ghosts;
+pub use lent::WithGhosts;
+pub use of_grid::ByGrid;
 pub use record::MultiBsplineRectilinear;
 pub use rectilinear_weights::Ghost;

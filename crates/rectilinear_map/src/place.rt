@@ -1,24 +1,17 @@
 // The place of a coordinate on an axis of a rectilinear map.
 ghost use Rattle.rectilinear_map.specs.Place.{RectilinearPlaced};
 
-use crate::build::check_map;
+use crate::build::looked_at;
 use knots::{Loc, axis_knots, get_loc};
 use shape::{Refusal, Shape};
 
-// The record and the grid are checked as `check` does, for as many coefficients as the shape wants.
-pub fn place(
-    count: usize,
-    dims: [usize; 4],
-    grid: &[f64],
-    axis: usize,
-    x: f64,
-) -> Result<Loc, Refusal>
-    ensures { RectilinearPlaced count dims grid.now axis x result }
+// The record's shape and the grid are checked as `check` does, for as many coefficients as the shape wants.
+pub fn place(shape: Shape, grid: &[f64], axis: usize, x: f64) -> Result<Loc, Refusal>
+    ensures { RectilinearPlaced shape.count shape.dims grid.now axis x result }
 {
-    let shape = Shape { count, dims };
-    check_map(count, dims, grid, shape.coeff_storage_len())?;
-    if count <= axis {
+    let axes = looked_at(shape, grid, shape.coeff_storage_len())?;
+    if axes.count <= axis {
         return Err(Refusal::NoSuchLine);
     }
-    Ok(get_loc(axis_knots(grid, count, dims, axis), x))
+    Ok(get_loc(axis_knots(grid, axes.count, axes.dims, axis), x))
 }

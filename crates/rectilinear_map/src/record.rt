@@ -62,7 +62,11 @@ impl MultiBsplineRectilinear {
     pub fn place(self, grid: &[f64], axis: usize, x: f64) -> Result<Loc, Refusal>
         ensures { RectilinearPlaced self.count self.dims grid.now axis x result }
     {
-        place::place(self.count, self.dims, grid, axis, x)
+        let shape = Shape {
+            count: self.count,
+            dims: self.dims,
+        };
+        place::place(shape, grid, axis, x)
     }
 
     // The value at a query of one coordinate an axis, or the first of these refusals: 1, 2, 3 for the record's shape; 2, the

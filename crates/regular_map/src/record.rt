@@ -36,7 +36,9 @@ impl MultiBsplineRegular {
     pub fn check(self, coeffs: &[f64]) -> Result<(), Refusal>
         ensures { answer_number result ≡ map_answer self.count self.dims self.steps (length coeffs.now) }
     {
-        build::check_map(self.count, self.dims, self.steps, coeffs.len())
+        let dims = self.dims;
+        let steps = self.steps;
+        build::check_map(self.count, dims, steps, coeffs.len())
     }
 
     // How far apart two neighbours on an axis are among the coefficients: 1 on the last axis. 0 where the shape is refused
@@ -47,7 +49,7 @@ impl MultiBsplineRegular {
         let dims = self.dims;
         let shape = Shape {
             count: self.count,
-            dims,
+            dims: dims,
         };
         shape.stride(axis)
     }
@@ -57,7 +59,7 @@ impl MultiBsplineRegular {
     pub fn place(self, axis: usize, x: f64) -> Result<(Saturation, usize), Refusal>
         ensures { RegularPlaced binary64 self.count self.dims self.starts self.steps axis x result }
     {
-        place::place(self.count, self.dims, self.starts, self.steps, axis, x)
+        place::place(self, axis, x)
     }
 
     // The value at a query of one coordinate an axis, or the first of these refusals: 1, 2, 3 for the record's shape; 2, the
@@ -104,9 +106,10 @@ impl MultiBsplineRegular {
     ) -> Result<MultiBsplineRegular, Refusal>
         ensures { RegularBuilt (map_answer shape.count shape.dims steps (length coeffs.now)) shape.count shape.dims starts steps linearize_extrapolation result }
     {
+        let dims = shape.dims;
         build::build(
             shape.count,
-            shape.dims,
+            dims,
             starts,
             steps,
             linearize_extrapolation,
@@ -130,9 +133,10 @@ impl MultiBsplineRegular {
             shape.count shape.dims starts steps linearize_extrapolation result }
         ensures regular_fit_leaves { RegularFitLeaves binary64 shape.count shape.dims vals.now coeffs.old scratch.old coeffs.new scratch.new }
     {
+        let dims = shape.dims;
         build::from_values(
             shape.count,
-            shape.dims,
+            dims,
             starts,
             steps,
             linearize_extrapolation,
