@@ -33,19 +33,17 @@ impl ShapedLine {
         if line.regular {
             return 2 * line.count;
         }
-        let dims = line.dims;
-        knots::grid_len(line.count, dims)
+        knots::grid_len(line.count, line.dims)
     }
 
     // How many line 3 has.
     fn points(self) -> usize
         ensures { result ≡ size (head_of self.line).dims }
     {
-        let line = self.line;
-        let dims = line.dims;
+        let dims = self.line.dims;
         let shape = Shape {
-            count: line.count,
-            dims: dims,
+            count: self.line.count,
+            dims,
         };
         shape.coeff_storage_len()
     }
@@ -126,8 +124,7 @@ fn shaped<const N: usize>(lines: Lines<'_>, line: FirstLine, page: &mut Page<N>)
     requires { (room_of lines ≤ 32769) × (length page.old + 3 * room_of lines + 132 ≤ N) }
     ensures { Wrote page.old (from_shape (head_of line) line.count lines.entry) page.new }
 {
-    let dims = line.dims;
-    match check_shape(line.count, dims) {
+    match check_shape(line.count, line.dims) {
         Ok(()) => second(lines, ShapedLine { line }, page),
         Err(refusal) => page.put_map(refusal.number()),
     }

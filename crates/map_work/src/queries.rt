@@ -24,8 +24,7 @@ fn answer<const N: usize>(map: &FittedMap<'_>, x: &[f64], page: &mut Page<N>) ->
 {
     match map.ask(x) {
         Ok(reply) => {
-            let parts = reply.parts;
-            page.put_values(reply.value, &parts[..x.len()]);
+            page.put_values(reply.value, &reply.parts[..x.len()]);
             reply.outside
         }
         Err(refusal) => {
