@@ -1,4 +1,4 @@
-// The fit with a grid: on a regular grid the shape and the length of the grid are looked at first, and the steps once it has fitted.
+// The fit with a regular grid: the shape and the length of the grid are looked at first, the steps once it has fitted.
 ghost use Rattle.std.specs.Prelude.{◌≡◌};
 ghost use Rattle.std.specs.Float.{binary64};
 ghost use Rattle.shape.specs.Checks.{first_refusal};

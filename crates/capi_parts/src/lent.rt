@@ -1,5 +1,5 @@
-// A regular map as C hands it over, which the calls that evaluate maps are lent: `grid` has the start of each axis, then the step of
-// each axis. A rectilinear one is `rectilinear_map`'s own, by its shape and its knots.
+// A regular map as C hands it over, which the calls that evaluate maps are lent: `grid` has the start of each axis, then the
+// step of each axis. A rectilinear one is `rectilinear_map`'s own, by its shape and its knots.
 ghost use Rattle.std.specs.Prelude.{◌≡◌, ◌≤◌, List, length};
 ghost use Rattle.std.specs.Float.{binary64};
 ghost use Rattle.multibspline.specs.Numbers.{f0};

@@ -1,6 +1,5 @@
 use mathlib.Core.Path.{refl, sym}
 use lib.ListN.{length}
-use native.Mathlib.Omega.{arith}
 use Rattle.shape.proofs.Exit.{err-is}
 use Rattle.shape.specs.declared.answers.Refusal.TheVariants.{DimensionMismatch}
 use Rattle.evaluation.proofs.Outcomes.{one-gradient-refused, one-length, one-gradient-answered}
@@ -30,11 +29,6 @@ returns-then-x-axes g c =
     (one-gradient-refused _ a.x.now DimensionMismatch
     (one-length _ a.x.now (g.met.L.Lent.positive a.lent (length a.coeffs.now)) (sym f.0) (rw (f.1.0) at (rw c.count-axes.ensures at c.if-x-axes.true))))
     (put_refused DimensionMismatch refl)
-
-pub single_gradient-requires : goal.single_gradient-requires
-single_gradient-requires g c =
-    let f = c.in_ok-map.ensures in
-    (rw f.1.0 f.1.1.sized, omega (arith, c.if-x-axes.false, c.count-axes.ensures), rw f.1.0 f.1.1.shape.at-most-four)
 
 pub returns-in_err-parts : goal.returns-in_err-parts
 returns-in_err-parts g c =
