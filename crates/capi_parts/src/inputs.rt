@@ -50,7 +50,7 @@ fn float_at(grid: &[f64], i: usize) -> f64
     0.0
 }
 
-// Four numbers of the grid: those of axes not in use are not looked at.
+// Four numbers of the grid, which C hands over as one list, from a place in it on. Those of axes not in use are not looked at.
 pub fn four_from(grid: &[f64], from: usize) -> [f64; 4]
     requires { from < 2 ^ 63 }
     ensures { result ≡ four_from from grid.now }

@@ -56,6 +56,7 @@ fn solve_axes<G: Grid>(grid: G, coeffs: &mut [f64], scratch: &mut [f64])
     ensures coeffs_after { coeffs.new ≡ fitted binary64 (G.rows grid) (G.dims grid) coeffs.old }
     ensures scratch_after { scratch.new ≡ left_in_scratch binary64 (G.rows grid) (G.dims grid) coeffs.old scratch.old }
 {
+    // counted: an axis is known by its number
     for axis in 0..grid.axes().count {
         solve_axis(grid, axis, coeffs, scratch);
     }

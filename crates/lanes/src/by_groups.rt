@@ -39,6 +39,7 @@ pub fn solve_slabs<S: System>(system: S, s: usize, slabs: usize, upper: &[f64], 
     requires uppers { Uppers (upper_number binary64 (S.rows system)) (S.rows system).points upper.now }
     ensures { coeffs.new ≡ solve_lines nan (coefficient binary64 (S.rows system)) (S.rows system).points s (slabs * s) coeffs.old }
 {
+    // counted: a slab is known by its number
     for k in 0..slabs {
         solve_slab(system, s, slabs, k, upper, coeffs);
     }

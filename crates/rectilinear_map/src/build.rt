@@ -1,4 +1,5 @@
-// Building a rectilinear map, and the checks of a record with its joined grid.
+// Building a rectilinear map, and the checks of a record with its joined grid. A regular map has its own: what its record holds and
+// what is checked of it are others. What both ask is `Shape::axes` and `points_by_stride`.
 ghost use Rattle.std.specs.Prelude.{◌≡◌, length, take};
 ghost use Rattle.std.specs.Float.{binary64};
 ghost use Rattle.shape.specs.Axes.{AxesOnce};
