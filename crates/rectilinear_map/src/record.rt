@@ -62,9 +62,10 @@ impl MultiBsplineRectilinear {
     pub fn place(self, grid: &[f64], axis: usize, x: f64) -> Result<Loc, Refusal>
         ensures { RectilinearPlaced self.count self.dims grid.now axis x result }
     {
+        let dims = self.dims;
         let shape = Shape {
             count: self.count,
-            dims: self.dims,
+            dims,
         };
         place::place(shape, grid, axis, x)
     }
