@@ -55,8 +55,9 @@ fn put_over<S: Sums>(
     }
 }
 
-// Over so many axes. Each number of axes has a loop of its own, so that the compiler knows how many parts there are. The numbers are
-// told apart here and in `value`: one switch for both would need a trait and a record of the arguments of each, more than its lines.
+// Over so many axes. Each number of axes has a loop of its own, so that the compiler knows how many parts there are. The numbers
+// are told apart here and in `value`: one switch for both would need a trait and a record of the arguments of each, more than its
+// lines.
 fn put_gradients(
     count: usize,
     strides: &[usize; 4],

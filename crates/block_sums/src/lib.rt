@@ -1,5 +1,5 @@
-// Values and gradients of a map, on either grid, at a block of queries: the sums over the coefficients that count, by the weights and
-// slopes of the queries.
+// Values and gradients of a map, on either grid, at a block of queries: the sums over the coefficients that count, by the weights
+// and slopes of the queries.
 //
 // `strides` and `coeffs` stay parameters beside the rows: `Sums` of interp_math takes them one by one, so that a struct of them
 // would be made here and taken apart a call later. `Summable` says what is asked of all. That there are as many coefficients as

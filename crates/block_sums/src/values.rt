@@ -20,8 +20,8 @@ fn over<S: Sums>(strides: &[usize; 4], coeffs: &[f64], weights: &[[f64; 4]; 4], 
     dot4(weights[S::axes()], S::sums(coeffs, strides, &turned, first))
 }
 
-// The value of a query. Each number of axes is a type, so that the compiler knows how many there are and keeps the rows in registers;
-// it is compiled into the loop over the queries.
+// The value of a query. Each number of axes is a type, so that the compiler knows how many there are and keeps the rows in
+// registers; it is compiled into the loop over the queries.
 #[inline(always)]
 pub fn value(
     count: usize,

@@ -3,8 +3,8 @@
 //
 // A function stands for each grid, as each name is one that C calls, with the parameters and the promises of that grid. What is
 // behind two of them is one: `capi_parts` and `map_calls` for the calls that take a map, `stepwise` for begin, line and list, whose
-// functions hand on in one line.
-// Rows of parameters that travel together are the C interface's, and stay.
+// functions hand on in one line. Rows of parameters that travel together are the C interface's, and stay. So does the number
+// `linear`: a C `bool` that holds another byte than 0 or 1 is undefined.
 #![tactic(auto)]
 
 mod on_rectilinear;

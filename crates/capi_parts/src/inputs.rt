@@ -5,14 +5,14 @@ ghost use Rattle.capi_parts.specs.Inputs.{lens_of, shape_of, four_from};
 
 use shape::Shape;
 
-// The length of an axis, 0 where there is no such axis.
-fn len_at(dims: &[usize], axis: usize) -> usize
-    ensures { result ≡ get_or dims.now axis 0 }
+// Entry i of what C hands over, or `none` past its end.
+fn entry_or<T: Copy>(entries: &[T], i: usize, none: T) -> T
+    ensures { result ≡ get_or entries.now i none }
 {
-    if axis < dims.len() {
-        return dims[axis];
+    if i < entries.len() {
+        return entries[i];
     }
-    0
+    none
 }
 
 // The lengths as the library takes them. More than four are refused, and so are not read.
@@ -23,10 +23,10 @@ fn lens_of(dims: &[usize]) -> [usize; 4]
         return [0, 0, 0, 0];
     }
     [
-        len_at(dims, 0),
-        len_at(dims, 1),
-        len_at(dims, 2),
-        len_at(dims, 3),
+        entry_or(dims, 0, 0),
+        entry_or(dims, 1, 0),
+        entry_or(dims, 2, 0),
+        entry_or(dims, 3, 0),
     ]
 }
 
@@ -40,25 +40,15 @@ pub fn shape_of(dims: &[usize]) -> Shape
     }
 }
 
-// A number of the grid, 0 past its end.
-fn float_at(grid: &[f64], i: usize) -> f64
-    ensures { result ≡ get_or grid.now i f0 }
-{
-    if i < grid.len() {
-        return grid[i];
-    }
-    0.0
-}
-
 // Four numbers of the grid, which C hands over as one list, from a place in it on. Those of axes not in use are not looked at.
 pub fn four_from(grid: &[f64], from: usize) -> [f64; 4]
     requires { from < 2 ^ 63 }
     ensures { result ≡ four_from from grid.now }
 {
     [
-        float_at(grid, from),
-        float_at(grid, from + 1),
-        float_at(grid, from + 2),
-        float_at(grid, from + 3),
+        entry_or(grid, from, 0.0),
+        entry_or(grid, from + 1, 0.0),
+        entry_or(grid, from + 2, 0.0),
+        entry_or(grid, from + 3, 0.0),
     ]
 }

@@ -6,8 +6,5 @@ pub fn block_size(from: usize, n: usize) -> usize
     requires { from < n }
     ensures { (0 < result) × (result ≤ 32) × (from + result ≤ n) }
 {
-    if n - from < 32 {
-        return n - from;
-    }
-    32
+    (n - from).min(32)
 }

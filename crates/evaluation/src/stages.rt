@@ -1,6 +1,6 @@
-// One axis of a block of queries, in stages: the places of the coordinates, then the rows of a table, the weights or the slopes. Each is one loop over the
-// queries, so that the processor works on several at once; every query goes through its own operations in their order, so that no
-// bit can change.
+// One axis of a block of queries, in stages: the places of the coordinates, then the rows of a table, the weights or the slopes.
+// Each is one loop over the queries, so that the processor works on several at once; every query goes through its own operations in
+// their order, so that no bit can change.
 ghost use Rattle.std.specs.Prelude.{◌≡◌, ℕ, [], ◌+◌, ◌*◌, ◌≤◌, ◌<◌, length, get_or, set, Float};
 ghost use Rattle.std.specs.Float.{nan};
 ghost use Rattle.shape.specs.Checks.{most_points};
@@ -32,7 +32,8 @@ impl Spot {
     }
 }
 
-// The places of the queries with the coordinates xs, up to the first that has none: how many come before it.
+// The places of the queries with the coordinates xs, up to the first that has none: how many come before it. By number, since three
+// lists stand side by side here, of which two are written.
 pub fn put_places<A: Axis>(
     axis: A,
     stride: usize,

@@ -1,5 +1,5 @@
-// The place of a query on a rectilinear axis. It is found by a count of knots here and by a division on a regular axis, so that only
-// the names, interpn's, are the same.
+// The place of a query on a rectilinear axis. It is found by a count of knots here and by a division on a regular axis, so that
+// only the names, interpn's, are the same.
 ghost use Rattle.std.specs.Prelude.{◌≡◌, true, ◌≤◌, length};
 ghost use Rattle.knots.specs.Knots.{rises};
 ghost use Rattle.knots.specs.Place.{loc_of, get_loc};

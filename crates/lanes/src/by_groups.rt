@@ -51,10 +51,7 @@ fn bundle_size(first: usize, lines: usize) -> usize
     requires { first < lines }
     ensures { (0 < result) × (first + result ≤ lines) }
 {
-    if lines - first < 8 {
-        return lines - first;
-    }
-    8
+    (lines - first).min(8)
 }
 
 // The next bundle from line `first` on. Answers how many lines it has.

@@ -1,7 +1,7 @@
 // The lines of a group, row by row in place, with the upper numbers at hand. The last row's right side is taken first, since the
-// sweep changes the row before it; from then on each row needs only the row beside it. `lines` has rows of the same names and is
-// no twin: a line alone works its upper numbers out with its right sides and leaves both in scratch, as its promise says. What the
-// two share is `System` and `Turn`.
+// sweep changes the row before it; from then on each row needs only the row beside it. `lines` and `multibspline` have rows of the
+// same names and are no twins: a line alone works its upper numbers out with its right sides and leaves both in scratch, as its
+// promise says. What the two share is `System` and `Turn`.
 ghost use Rattle.std.specs.Prelude.{◌≡◌, ◌+◌, ◌-◌, ◌≤◌, ◌<◌, length};
 ghost use Rattle.std.specs.Float.{binary64, nan};
 ghost use Rattle.lines.specs.Rows.{coefficient, upper_number};

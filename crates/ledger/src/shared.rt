@@ -1,5 +1,5 @@
-// What begin, the line call and the task list check on either grid, in the order of the supplied document: the shape first, then the
-// joined grid, what stands here up to the ledger, the knots, and what stands here after them. The shape has passed its check.
+// What begin, the line call and the task list check on either grid, in the order of the supplied document: the shape first, then
+// the joined grid, what stands here up to the ledger, the knots, and what stands here after them. The shape has passed its check.
 ghost use Rattle.std.specs.Prelude.{◌≡◌, ◌++◌, length, take, replicate};
 ghost use Rattle.shape.specs.Shape.{size};
 ghost use Rattle.shape.specs.Checks.{first_refusal, length_check, scratch_check};

@@ -1,5 +1,5 @@
-// Batches of queries, axis after axis. A batch that is refused with 6 at an entry has written the entries before it and none from it
-// on.
+// Batches of queries, axis after axis. A batch that is refused with 6 at an entry has written the entries before it and none from
+// it on. Values and gradients are two calls, as in interpn: how many numbers an output has is not the same, and is checked here.
 ghost use Rattle.std.specs.Prelude.{length};
 ghost use Rattle.std.specs.Float.{binary64};
 ghost use Rattle.shape.specs.Refusal.{answer_number};

@@ -1,4 +1,4 @@
-// The value and the gradient at a single query.
+// The value and the gradient at a single query: two calls, as in interpn. A value has a faster way on some maps.
 ghost use Rattle.std.specs.Prelude.{length};
 ghost use Rattle.std.specs.Float.{binary64};
 ghost use Rattle.multibspline.specs.Numbers.{f0};

@@ -1,4 +1,5 @@
-// The lines, each put behind what the page has.
+// The lines, each put behind what the page has. No `Display`: a page is bytes, its floats are their bits in hexadecimal, and a
+// refusal is printed by its number, since this crate knows no refusals.
 ghost use Rattle.std.specs.Prelude.{◌≡◌, [], ◌∷◌, ℕ, ◌<◌, ◌≤◌, ◌+◌, ◌*◌, ◌/◌, ◌^◌, length, List, Float};
 ghost use Rattle.float_text.specs.Digits.{digits_of};
 ghost use Rattle.float_text.specs.Bits.{float_text};

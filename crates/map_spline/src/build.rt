@@ -17,7 +17,7 @@ pub enum Map {
     Rectilinear(MultiBsplineRectilinear),
 }
 
-// The starts: the first half of the row.
+// The starts: the first half of the row, which is as long as two numbers an axis.
 fn starts_of(row: &[f64], count: usize) -> [f64; 4]
     requires { (count ≤ 4) × (length row.now ≡ 2 * count) }
     ensures { result ≡ query count (take count row.now) 1 0 }

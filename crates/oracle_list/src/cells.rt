@@ -15,6 +15,7 @@ pub fn same_cells(a: &[f64], b: &[f64]) -> bool
 }
 
 // What a cell has to pass with the float of its word: the same bits, any NaN for any NaN; or no further away than a tolerance.
+// No `Option` of a tolerance: to be the same is a test too, not the lack of one.
 #[derive(Clone, Copy)]
 pub enum Test {
     Same,

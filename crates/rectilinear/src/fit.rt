@@ -1,5 +1,5 @@
-// The whole fit on a rectilinear grid: its checks, and then axis after axis. Knots, samples, coefficients and scratch are lent one by
-// one, as interpn's caller lends them.
+// The whole fit on a rectilinear grid: its checks, and then axis after axis. Knots, samples, coefficients and scratch are lent one
+// by one, as interpn's caller lends them.
 ghost use Rattle.std.specs.Float.{binary64};
 ghost use Rattle.shape.specs.Axes.{AxesOnce};
 ghost use Rattle.shape.specs.Checks.{first_refusal};

@@ -49,7 +49,7 @@ pub fn check_map(count: usize, dims: [usize; 4], grid: &[f64], coeffs: usize) ->
     Ok(())
 }
 
-// Nothing but zeros.
+// Nothing but zeros. Kept as a public function.
 pub fn blank() -> MultiBsplineRectilinear
     ensures { map_of result ≡ blank }
 {

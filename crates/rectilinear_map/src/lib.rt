@@ -1,7 +1,7 @@
 // Cubic B-spline maps on a rectilinear grid, double precision: the record, building, values, gradients and batches. After
 // interpn's multibspline::rectilinear.
 //
-// The shape, grid, flag and coefficients, and the buffers of a fit, are parameters in interpn's order, which the C interface has.
+// The shape, grid, flag and coefficients, and the buffers of a fit, are parameters in interpn's functions, in its order.
 #![tactic(auto)]
 
 mod build;

@@ -27,8 +27,8 @@ use rectilinear_weights::{
 };
 use shape::{Refusal, Shape};
 
-// A query on an axis of knots, at a span of it: the ghost numbers of an end are worked out where the query lies at that end. The ends
-// are asked for by name: a second caller of `interp_weights`, or of `inner_weights`, slows the batches by some percent.
+// A query on an axis of knots, at a span of it: the ghost numbers of an end are worked out where the query lies at that end. The
+// ends are asked for by name: a second caller of `interp_weights`, or of `inner_weights`, slows the batches by some percent.
 #[derive(Clone, Copy)]
 struct OwnWeights<'a> {
     knots: &'a [f64],

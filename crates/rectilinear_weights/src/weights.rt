@@ -114,7 +114,8 @@ impl Asked for Slopes {
     }
 }
 
-// The low end: interpn's low_boundary_weights and low_boundary_weight_derivatives.
+// The low end: interpn's low_boundary_weights and low_boundary_weight_derivatives. The high end has other knots, another span and a
+// fold of its own.
 fn low_end<A: Asked>(asked: A, grid: &[f64], x: f64, straight: bool, low_ghost: Ghost) -> [f64; 4]
     requires { 4 ≤ length grid.now }
     ensures { result ≡ fold_low binary64 (ghost_numbers low_ghost)
@@ -197,7 +198,8 @@ impl<'a, A: Asked> AtPlace for Query<'a, A> {
     }
 }
 
-// The weights at a place.
+// The weights at a place. This and the slopes are interpn's two functions, with its parameters; what they share is `Query` and
+// `by_place`.
 pub fn interp_weights(
     grid: &[f64],
     span: usize,

@@ -1,5 +1,5 @@
-// Building a regular map, and the checks of a record. A rectilinear map has its own: what its record holds and what is checked of it
-// are others. What both ask is `Shape::axes` and `points_by_stride`.
+// Building a regular map, and the checks of a record. A rectilinear map has its own: what its record holds and what is checked of
+// it are others. What both ask is `Shape::axes` and `points_by_stride`.
 ghost use Rattle.std.specs.Prelude.{◌≡◌, false, [], ◌∷◌, ◌≤◌, length, take};
 ghost use Rattle.std.specs.Float.{binary64};
 ghost use Rattle.multibspline.specs.Numbers.{f0};
@@ -47,7 +47,7 @@ pub fn check_map(
     Ok(())
 }
 
-// Nothing but zeros.
+// Nothing but zeros. Kept as a public function.
 pub fn blank() -> MultiBsplineRegular
     ensures { map_of result ≡ blank }
 {

@@ -1,8 +1,7 @@
 // Regular maps: the record, building, values, gradients and batches, double precision. After interpn's
 // multibspline::regular.
 //
-// The axis count, lengths, starts and steps, and the buffers of a fit, are parameters in interpn's order, which the C interface
-// has.
+// The axis count, lengths, starts and steps, and the buffers of a fit, are parameters of interpn's functions, in its order.
 #![tactic(auto)]
 
 mod build;

@@ -1,5 +1,5 @@
-// The record of a regular map. It travels by value; its coefficients are lent beside it, and each call looks at it anew. The record of
-// either grid has interpn's methods; what they do stands once below them (`map_calls`, `shape`) or differs with the grid.
+// The record of a regular map. It travels by value; its coefficients are lent beside it, and each call looks at it anew. The record
+// of either grid has interpn's methods; what they do stands once below them (`map_calls`, `shape`) or differs with the grid.
 ghost use Rattle.std.specs.Prelude.{◌≡◌, length};
 ghost use Rattle.multibspline.specs.Numbers.{f0};
 ghost use Rattle.evaluation.specs.Axes.{zeros};

@@ -29,9 +29,9 @@ fn look(grid: &Grid, a: usize, x: f64) -> Result<(usize, [f64; 4]), Refusal>
     }
 }
 
-// The value at a query, or that it has no representable cell. Each axis has its own lines, and a number that is a constant there: the
-// axis's numbers and the weights so far stay in registers, where a loop over the axes would keep them in arrays. A row of an axis that
-// there is not repeats the last one; it is not looked at.
+// The value at a query, or that it has no representable cell. Each axis has its own lines, and a number that is a constant there:
+// the axis's numbers and the weights so far stay in registers, where a loop over the axes would keep them in arrays. A row of an
+// axis that there is not repeats the last one; it is not looked at.
 pub fn value_at(grid: &Grid, coeffs: &[f64], x: &[f64]) -> Result<f64, Refusal>
     requires { (length coeffs.now ≡ size (take grid.now.count grid.now.dims)) × (grid.now.count ≤ length x.now) }
     ensures { Answered (regular binary64 (map_of grid.now) coeffs.now) (query grid.now.count x.now 1 0) (answer_number result) (answer_or f0 result) }

@@ -1,5 +1,5 @@
-// The place of a query on a regular axis. It is found by a division here and by a count of knots on a rectilinear axis, so that only
-// the names, interpn's, are the same.
+// The place of a query on a regular axis. It is found by a division here and by a count of knots on a rectilinear axis, so that
+// only the names, interpn's, are the same.
 ghost use Rattle.std.specs.Prelude.{◌≡◌, ◌+◌, ◌<◌, ◌≤◌};
 ghost use Rattle.std.specs.Float.{binary64};
 ghost use Rattle.regular_weights.specs.Place.{loc_of, get_loc, past_origin};

@@ -51,7 +51,7 @@ fn cubic_bspline_weight_derivatives(t: f64) -> [f64; 4]
 // Straight lines and folds stand once for each end: which entry is zero and which ones are added to differs, not a number, so
 // that one function for both ends would hold both formulas.
 
-// The straight line from the low end.
+// The straight line from the low end. Either end's is interpn's, a line of numbers each.
 fn low_linearized_boundary_weights(t: f64) -> [f64; 4]
     ensures { result ≡ low_linearized_boundary_weights binary64 t }
 {

@@ -80,7 +80,7 @@ fn tell(rt: &impl Print, name: &[u8], is_same: bool) -> io::Result<()> {
     Ok(())
 }
 
-// A case that has been read.
+// A case that has been read. Its kind is turned last, as a number until then: a case that differs is named whatever its kind.
 fn replay_parts(rt: &impl Print, kind: u64, parts: Parts, text: &[u8]) -> Result<Replayed, Stop>
     requires { length text.now ≡ parts.name + parts.input + parts.printed + 3 }
 {

@@ -34,7 +34,7 @@ pub fn float_of(floats: &[f64], i: usize) -> f64 {
     floats.get(i).copied().unwrap_or(0.0)
 }
 
-// Four floats of the grid: a regular one is four starts, then four steps.
+// Four floats of the grid: a regular one is four starts, then four steps. No replay is built on the library's parts for C.
 fn four_from(grid: &[f64], i: usize) -> [f64; 4]
     requires { i ≤ 4 }
 {

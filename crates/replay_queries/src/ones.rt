@@ -1,4 +1,5 @@
-// The queries of a record by themselves. A query's coordinates stand n apart in one list, as in a batch, so that n goes with the list.
+// The queries of a record by themselves. A query's coordinates stand n apart in one list, as in a batch, so that n goes with the
+// list.
 ghost use Rattle.std.specs.Prelude.{◌≡◌, ◌<◌, ◌≤◌, length};
 
 use crate::map::{Map, float_of};

@@ -1,4 +1,4 @@
-// One record of the list: whether it can be read, and what it counts as.
+// One record of the list: whether it can be read, and what it counts as. Each list has kinds, sizes and counts of its own.
 ghost use Rattle.std.specs.Prelude.{◌≡◌, ◌+◌, ◌≤◌};
 
 use crate::batch;

@@ -1,6 +1,8 @@
 // The runs of a record: a begin that is refused, or a list by the line call and the same list by one call. Coefficients, ledger and
 // answers have the record's lengths.
 //
+// Text, tasks and fit, or fit, samples, state and scratch, go on one by one, since each call lends others of them.
+//
 // The bound of `told` is a clause: a list's answers are not what `State` keeps between the calls, and the line call has them one
 // by one.
 ghost use Rattle.std.specs.Prelude.{◌≡◌, true, ◌≤◌, length};

@@ -1,5 +1,5 @@
-// A list by the line call, one task after the other. Fit, state, scratch and answers go on one by one, since each call lends others.
-// A task is known by its place in the words of the record, as the definitions have it.
+// A list by the line call, one task after the other. Fit, state, scratch and answers go on one by one, since each call lends
+// others. A task is known by its place in the words of the record, as the definitions have it.
 ghost use Rattle.std.specs.Prelude.{◌≡◌, ◌≤◌, length};
 
 use crate::call::{State, Stepwise};

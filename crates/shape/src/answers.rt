@@ -26,6 +26,7 @@ pub enum Refusal {
 }
 
 impl Refusal {
+    // Called by name and no `From`, so that it is plain which number is meant.
     pub fn number(self) -> u64
         ensures { result ≡ refusal_number self }
     {
@@ -43,7 +44,7 @@ impl Refusal {
     }
 }
 
-// The number that a call answers: 0 where it was accepted.
+// The number that a call answers: 0 where it was accepted. A function, since neither type is this crate's.
 pub fn answer_number(answer: Result<(), Refusal>) -> u64
     ensures { result ≡ answer_number answer }
 {

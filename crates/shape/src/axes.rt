@@ -7,8 +7,8 @@ ghost use Rattle.shape.specs.Line.{LineLooked};
 use crate::line::{Line, first_cell_of};
 use crate::spans::{longest_of, span};
 
-// One to four axes of at least four points, at most 16,777,216 points in all; `Shape::axes` makes it. Lengths past the axis count are
-// not looked at.
+// One to four axes of at least four points, at most 16,777,216 points in all; `Shape::axes` makes it. Lengths past the axis count
+// are not looked at.
 #[derive(Clone, Copy)]
 pub struct Axes {
     pub count: usize,

@@ -27,8 +27,8 @@ pub struct Shape {
 
 // Each method looks at the shape anew. A method that has no answer for a shape or an axis says 0, or the refusal.
 impl Shape {
-    // The axes of the shape, or the first of these refusals: 1, the axis count is not 1 to 4; 2, an axis has fewer than 4 points; 3,
-    // the map has more than 16,777,216 points.
+    // The axes of the shape, or the first of these refusals: 1, the axis count is not 1 to 4; 2, an axis has fewer than 4 points;
+    // 3, the map has more than 16,777,216 points.
     pub fn axes(self) -> Result<Axes, Refusal>
         ensures { AxesFound self.count self.dims result }
     {

@@ -74,8 +74,8 @@ fn run_list<S: Spacing>(
         (state_of coeffs.old ledger.old) scratch.old
         (state_of coeffs.new ledger.new) scratch.new answers.new }
 {
-    // The number says a call: two lists are read at it, and one is written. What is left is said from it on; three iterators side by
-    // side, one of them over bytes to write, would say it three times.
+    // The number says a call: two lists are read at it, and one is written. What is left is said from it on; three iterators side
+    // by side, one of them over bytes to write, would say it three times.
     for i in 0..tasks.axes.len() {
         run_one(map, spacing, tasks, i, coeffs, ledger, scratch, answers);
     }

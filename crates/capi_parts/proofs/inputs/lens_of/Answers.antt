@@ -9,4 +9,4 @@ returns-then-dims-gt4 c = rw (lt-ltb _ _ c.if-dims-gt4.true)
 pub returns : goal.returns
 unfolding lens_of
 returns c =
-    rw (le-ltb _ _ c.if-dims-gt4.false, c.len_at-4.ensures, c.len_at-3.ensures, c.len_at-2.ensures, c.len_at.ensures)
+    rw (le-ltb _ _ c.if-dims-gt4.false, c.entry_or-4.ensures, c.entry_or-3.ensures, c.entry_or-2.ensures, c.entry_or.ensures)
