@@ -1,4 +1,5 @@
-// The joined grid by its parts, for a caller whose record has axis count and lengths.
+// The joined grid by its parts, for a caller whose record has axis count and lengths: `axis_knots` is for `rectilinear_blocks`,
+// `grid_len` for `map_work`. No caller is left here for `all_rise`; it stays as a public function. Else hand on a `Joined`.
 ghost use Rattle.std.specs.Prelude.{◌≡◌, ◌<◌, length, take};
 ghost use Rattle.shape.specs.Usable.{Usable};
 ghost use Rattle.knots.specs.Joined.{total, knots_of, all_rise};

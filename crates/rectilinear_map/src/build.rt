@@ -1,45 +1,43 @@
 // Building a rectilinear map, and the checks of a record with its joined grid. A regular map has its own: what its record holds and
 // what is checked of it are others. What both ask is `Shape::axes` and `points_by_stride`.
-ghost use Rattle.std.specs.Prelude.{◌≡◌, length, take};
+ghost use Rattle.std.specs.Prelude.{◌≡◌};
 ghost use Rattle.std.specs.Float.{binary64};
-ghost use Rattle.shape.specs.Axes.{AxesOnce};
 ghost use Rattle.shape.specs.Refusal.{answer_number, refusal_number};
-ghost use Rattle.knots.specs.Joined.{total};
 ghost use Rattle.rectilinear.specs.Fit.{RectilinearFitted};
 ghost use Rattle.rectilinear_map.specs.Map.{made, blank};
-ghost use Rattle.rectilinear_map.specs.Records.{map_of, BuiltAs, BuiltByFit};
+ghost use Rattle.rectilinear_map.specs.Records.{map_of, JoinedOnce, BuiltAs, BuiltByFit};
 ghost use Rattle.rectilinear_blocks.specs.Eval.{grid_answer, map_answer};
 
 use crate::ends::{High, Low, ghosts_of, no_ghosts};
 use crate::record::MultiBsplineRectilinear;
 use evaluation::{points_by_stride, used_of};
-use knots::{all_rise, grid_len};
+use knots::{Joined, knots_of_all};
 use shape::{Axes, Refusal, Shape};
 
-// The shape, then the length of the joined grid. The axes, where both pass.
-fn joined(shape: Shape, grid: &[f64]) -> Result<Axes, Refusal>
-    ensures { AxesOnce (grid_answer shape.count shape.dims grid.now) shape.count shape.dims result }
+// The shape, then the length of the joined grid. The joined grid, where both pass.
+fn joined(shape: Shape, grid: &[f64]) -> Result<Joined<'_>, Refusal>
+    ensures { JoinedOnce (grid_answer shape.count shape.dims grid.now) shape.count shape.dims grid.now result }
 {
     let axes = shape.axes()?;
-    if grid.len() != grid_len(axes.count, axes.dims) {
+    if grid.len() != knots_of_all(axes) {
         return Err(Refusal::DimensionMismatch);
     }
-    Ok(axes)
+    Ok(Joined { axes, knots: grid })
 }
 
-// The checks of a record and its grid: the shape and the grid's length, the length of the coefficients, the knots. The axes, where
-// they pass.
-pub fn looked_at(shape: Shape, grid: &[f64], coeffs: usize) -> Result<Axes, Refusal>
-    ensures { AxesOnce (map_answer shape.count shape.dims grid.now coeffs) shape.count shape.dims result }
+// The checks of a record and its grid: the shape and the grid's length, the length of the coefficients, the knots. The joined
+// grid, where they pass.
+pub fn looked_at(shape: Shape, grid: &[f64], coeffs: usize) -> Result<Joined<'_>, Refusal>
+    ensures { JoinedOnce (map_answer shape.count shape.dims grid.now coeffs) shape.count shape.dims grid.now result }
 {
-    let axes = joined(shape, grid)?;
-    if coeffs != points_by_stride(axes) {
+    let joined = joined(shape, grid)?;
+    if coeffs != points_by_stride(joined.axes) {
         return Err(Refusal::DimensionMismatch);
     }
-    if !all_rise(grid, axes.count, axes.dims) {
+    if !joined.rises() {
         return Err(Refusal::NotIncreasing);
     }
-    Ok(axes)
+    Ok(joined)
 }
 
 pub fn check_map(count: usize, dims: [usize; 4], grid: &[f64], coeffs: usize) -> Result<(), Refusal>
@@ -66,15 +64,15 @@ pub fn blank() -> MultiBsplineRectilinear
 }
 
 // An accepted map: entries of axes not in use are zero.
-fn accepted(axes: Axes, grid: &[f64], linear: bool) -> MultiBsplineRectilinear
-    requires { length grid.now ≡ total (take axes.count axes.dims) }
-    ensures { map_of result ≡ made binary64 axes.count axes.dims grid.now linear }
+fn accepted(joined: Joined<'_>, linear: bool) -> MultiBsplineRectilinear
+    ensures { map_of result ≡ made binary64 joined.entry.axes.count joined.entry.axes.dims joined.entry.knots.now linear }
 {
+    let axes = joined.axes;
     MultiBsplineRectilinear {
         count: axes.count,
         dims: used_of(axes.count, axes.dims, 0),
-        low_ghost_coeffs: ghosts_of::<Low>(axes, grid),
-        high_ghost_coeffs: ghosts_of::<High>(axes, grid),
+        low_ghost_coeffs: ghosts_of::<Low>(joined),
+        high_ghost_coeffs: ghosts_of::<High>(joined),
         linearize_extrapolation: linear,
     }
 }
@@ -87,16 +85,16 @@ pub fn build(
 ) -> Result<MultiBsplineRectilinear, Refusal>
     ensures { BuiltAs binary64 (map_answer shape.count shape.dims grid.now coeffs) shape.count shape.dims grid.now linear result }
 {
-    let axes = looked_at(shape, grid, coeffs)?;
-    Ok(accepted(axes, grid, linear))
+    let joined = looked_at(shape, grid, coeffs)?;
+    Ok(accepted(joined, linear))
 }
 
 // From the grid alone; the knots are left to the calls that evaluate the map.
 pub fn of_grid(shape: Shape, grid: &[f64], linear: bool) -> Result<MultiBsplineRectilinear, Refusal>
     ensures { BuiltAs binary64 (grid_answer shape.count shape.dims grid.now) shape.count shape.dims grid.now linear result }
 {
-    let axes = joined(shape, grid)?;
-    Ok(accepted(axes, grid, linear))
+    let joined = joined(shape, grid)?;
+    Ok(accepted(joined, linear))
 }
 
 pub fn from_values(
@@ -112,5 +110,6 @@ pub fn from_values(
 {
     let Shape { count, dims } = shape;
     rectilinear::coefficients(shape, grid, vals, coeffs, scratch)?;
-    Ok(accepted(Axes { count, dims }, grid, linear))
+    let axes = Axes { count, dims };
+    Ok(accepted(Joined { axes, knots: grid }, linear))
 }

@@ -2,15 +2,14 @@
 ghost use Rattle.std.specs.Prelude.{◌≡◌, cond, List, Float, [], ◌∷◌, ◌<◌, ◌≤◌, ltb, length, take};
 ghost use Rattle.std.specs.Float.{binary64};
 ghost use Rattle.evaluation.specs.Axes.{per_axis};
-ghost use Rattle.knots.specs.Joined.{knots_of, total};
+ghost use Rattle.knots.specs.Joined.{knots_of};
 ghost use Rattle.rectilinear_weights.specs.Ghosts.{low_ghost_coeffs, high_ghost_coeffs};
 ghost use Rattle.rectilinear_weights.specs.Records.{ghost_numbers};
 ghost use Rattle.rectilinear_blocks.specs.Ghosts.{ghosts};
 ghost use Rattle.rectilinear_map.specs.Map.{no_ghost};
 
-use knots::axis_knots;
+use knots::Joined;
 use rectilinear_weights::{Ghost, high_ghost_coeffs, low_ghost_coeffs};
-use shape::Axes;
 
 // An end of an axis.
 pub trait End {
@@ -59,25 +58,24 @@ pub fn no_ghosts() -> [Ghost; 4]
 }
 
 // Those of axis a, or zeros where it is not in use.
-fn ghost_on<E: End>(axes: Axes, grid: &[f64], a: usize) -> Ghost
-    requires { (length grid.now ≡ total (take axes.count axes.dims)) × (a < 4) }
-    ensures { ghost_numbers result ≡ cond (ltb a axes.count) (E.numbers (knots_of grid.now (take axes.count axes.dims) a)) no_ghost }
+fn ghost_on<E: End>(joined: Joined<'_>, a: usize) -> Ghost
+    requires { a < 4 }
+    ensures { ghost_numbers result ≡ cond (ltb a joined.entry.axes.count) (E.numbers (knots_of joined.entry.knots.now (take joined.entry.axes.count joined.entry.axes.dims) a)) no_ghost }
 {
-    if axes.count <= a {
+    if joined.axes.count <= a {
         return no_ghost();
     }
-    E::ghost_of(axis_knots(grid, axes.count, axes.dims, a))
+    E::ghost_of(joined.along(a))
 }
 
 // Those of each axis.
-pub fn ghosts_of<E: End>(axes: Axes, grid: &[f64]) -> [Ghost; 4]
-    requires { length grid.now ≡ total (take axes.count axes.dims) }
-    ensures { ghosts result ≡ per_axis no_ghost axes.count (λ a. E.numbers (knots_of grid.now (take axes.count axes.dims) a)) }
+pub fn ghosts_of<E: End>(joined: Joined<'_>) -> [Ghost; 4]
+    ensures { ghosts result ≡ per_axis no_ghost joined.entry.axes.count (λ a. E.numbers (knots_of joined.entry.knots.now (take joined.entry.axes.count joined.entry.axes.dims) a)) }
 {
     [
-        ghost_on::<E>(axes, grid, 0),
-        ghost_on::<E>(axes, grid, 1),
-        ghost_on::<E>(axes, grid, 2),
-        ghost_on::<E>(axes, grid, 3),
+        ghost_on::<E>(joined, 0),
+        ghost_on::<E>(joined, 1),
+        ghost_on::<E>(joined, 2),
+        ghost_on::<E>(joined, 3),
     ]
 }

@@ -34,11 +34,11 @@ impl<'a> Lent for WithGrid<'a> {
             high_ghost_coeffs,
             linearize_extrapolation,
         } = self.map;
-        let axes = looked_at(Shape { count, dims }, self.grid, coeffs)?;
+        let joined = looked_at(Shape { count, dims }, self.grid, coeffs)?;
         Ok(Grid {
             count,
             dims,
-            strides: strides_of(axes),
+            strides: strides_of(joined.axes),
             knots: self.grid,
             low: low_ghost_coeffs,
             high: high_ghost_coeffs,
@@ -68,14 +68,14 @@ impl<'a> Lent for WithGhosts<'a> {
 
     fn accept(self, coeffs: usize) -> Result<Grid<'a>, Refusal> {
         let Shape { count, dims } = self.shape;
-        let axes = looked_at(self.shape, self.grid, coeffs)?;
+        let joined = looked_at(self.shape, self.grid, coeffs)?;
         Ok(Grid {
             count,
             dims,
-            strides: strides_of(axes),
+            strides: strides_of(joined.axes),
             knots: self.grid,
-            low: ghosts_of::<Low>(axes, self.grid),
-            high: ghosts_of::<High>(axes, self.grid),
+            low: ghosts_of::<Low>(joined),
+            high: ghosts_of::<High>(joined),
             linear: self.linear,
         })
     }

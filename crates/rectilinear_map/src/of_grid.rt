@@ -17,7 +17,7 @@ ghost use Rattle.rectilinear_map.specs.Map.{of_grid};
 
 use crate::build::looked_at;
 use evaluation::{Axis, Map, strides_of};
-use knots::{axis_knots, count_below, loc_of};
+use knots::{Joined, count_below, loc_of};
 use map_calls::Lent;
 use multibspline::{AtPlace, by_place};
 use rectilinear_basis::basis_span_weights;
@@ -25,7 +25,7 @@ use rectilinear_weights::{
     high_boundary_weights, high_ghost_coeffs, interp_weight_derivatives, low_boundary_weights,
     low_ghost_coeffs,
 };
-use shape::{Refusal, Shape};
+use shape::{Axes, Refusal, Shape};
 
 // A query on an axis of knots, at a span of it: the ghost numbers of an end are worked out where the query lies at that end. The
 // ends are asked for by name: a second caller of `interp_weights`, or of `inner_weights`, slows the batches by some percent.
@@ -139,8 +139,16 @@ impl<'a> Map for OfGrid<'a> {
     }
 
     fn axis(&self, a: usize) -> Knots<'a> {
+        let axes = Axes {
+            count: self.count,
+            dims: self.dims,
+        };
+        let joined = Joined {
+            axes,
+            knots: self.knots,
+        };
         Knots {
-            knots: axis_knots(self.knots, self.count, self.dims, a),
+            knots: joined.along(a),
             linear: self.linear,
         }
     }
@@ -163,11 +171,11 @@ impl<'a> Lent for ByGrid<'a> {
 
     fn accept(self, coeffs: usize) -> Result<OfGrid<'a>, Refusal> {
         let Shape { count, dims } = self.shape;
-        let axes = looked_at(self.shape, self.grid, coeffs)?;
+        let joined = looked_at(self.shape, self.grid, coeffs)?;
         Ok(OfGrid {
             count,
             dims,
-            strides: strides_of(axes),
+            strides: strides_of(joined.axes),
             knots: self.grid,
             linear: self.linear,
         })

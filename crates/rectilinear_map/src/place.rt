@@ -2,16 +2,16 @@
 ghost use Rattle.rectilinear_map.specs.Place.{RectilinearPlaced};
 
 use crate::build::looked_at;
-use knots::{Loc, axis_knots, get_loc};
+use knots::{Loc, get_loc};
 use shape::{Refusal, Shape};
 
 // The record's shape and the grid are checked as `check` does, for as many coefficients as the shape wants.
 pub fn place(shape: Shape, grid: &[f64], axis: usize, x: f64) -> Result<Loc, Refusal>
     ensures { RectilinearPlaced shape.count shape.dims grid.now axis x result }
 {
-    let axes = looked_at(shape, grid, shape.coeff_storage_len())?;
-    if axes.count <= axis {
+    let joined = looked_at(shape, grid, shape.coeff_storage_len())?;
+    if joined.axes.count <= axis {
         return Err(Refusal::NoSuchLine);
     }
-    Ok(get_loc(axis_knots(grid, axes.count, axes.dims, axis), x))
+    Ok(get_loc(joined.along(axis), x))
 }

@@ -12,15 +12,15 @@ returns-in_err-coefficients c =
       rectilinear_fitted = c.in_err-coefficients.ensures;
     })
 
-pub invariant_of-accepted : goal.invariant_of-accepted
-invariant_of-accepted c =
+pub invariant_of-axes : goal.invariant_of-axes
+invariant_of-axes c =
     let a = c.args in
     record { usable = (fit-gridded a.shape.count a.shape.dims a.grid.now (length a.vals.now) (length a.coeffs.now) (length a.scratch.now) (omega (arith, c.well_formed)) c.in_ok-coefficients.ensures.answers).shape }
 
-pub accepted-requires : goal.accepted-requires
-accepted-requires c =
+pub invariant_of-accepted : goal.invariant_of-accepted
+invariant_of-accepted c =
     let a = c.args in
-    (fit-gridded a.shape.count a.shape.dims a.grid.now (length a.vals.now) (length a.coeffs.now) (length a.scratch.now) (omega (arith, c.well_formed)) c.in_ok-coefficients.ensures.answers).joined
+    record { as_many = (fit-gridded a.shape.count a.shape.dims a.grid.now (length a.vals.now) (length a.coeffs.now) (length a.scratch.now) (omega (arith, c.well_formed)) c.in_ok-coefficients.ensures.answers).joined }
 
 pub returns : goal.returns
 returns c = record { built_by_fit = built-accepted c.in_ok-coefficients.ensures.answers c.accepted.ensures; rectilinear_fitted = c.in_ok-coefficients.ensures }

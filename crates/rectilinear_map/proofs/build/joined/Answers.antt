@@ -1,4 +1,4 @@
-use mathlib.Core.Path.{sym, ◌∙◌}
+use mathlib.Core.Path.{sym, refl, ◌∙◌}
 use Rattle.shape.proofs.Exit.{err-is}
 use Rattle.rectilinear_map.proofs.Checks.{grid-shape, grid-length, grid-passed}
 use Rattle.rectilinear_map.proofs.build.joined.Goals as goal
@@ -9,17 +9,16 @@ returns-in_err-axes c =
     let a = c.args in
     grid-shape a.shape.count a.shape.dims a.grid.now _ c.in_err-axes.ensures)
 
-pub grid_len-requires : goal.grid_len-requires
-grid_len-requires c = c.in_ok-axes.axes.usable
-
-pub returns-then-grid-grid_len : goal.returns-then-grid-grid_len
-returns-then-grid-grid_len c =
+pub returns-then-grid-knots_of_all : goal.returns-then-grid-knots_of_all
+returns-then-grid-knots_of_all c =
     let a = c.args in
     let f = c.in_ok-axes.ensures in
-    grid-length a.shape.count a.shape.dims a.grid.now f.0 (λ e. c.if-grid-grid_len.true (e ∙ sym (rw (f.1.0, f.1.1) at c.grid_len.ensures)))
+    grid-length a.shape.count a.shape.dims a.grid.now f.0 (λ e. c.if-grid-knots_of_all.true (e ∙ sym (rw (f.1.0, f.1.1) at c.knots_of_all.ensures)))
 
 pub returns : goal.returns
 returns c =
     let a = c.args in
-    let f = c.in_ok-axes.ensures in
-    (grid-passed a.shape.count a.shape.dims a.grid.now f.0 (c.if-grid-grid_len.false ∙ (rw (f.1.0, f.1.1) at c.grid_len.ensures)), f.1)
+    let f = c.in_ok-axes.ensures in (
+      grid-passed a.shape.count a.shape.dims a.grid.now f.0 (c.if-grid-knots_of_all.false ∙ (rw (f.1.0, f.1.1) at c.knots_of_all.ensures)),
+      (f.1.0, (f.1.1, refl)),
+    )

@@ -7,37 +7,23 @@ use Rattle.rectilinear_map.specs.Map.{low_ghosts, high_ghosts}
 use Rattle.rectilinear_map.proofs.Checks.{map-sound}
 use Rattle.rectilinear_map.proofs.lent.WithGhostsLent.accept.Goals as goal
 
-pub returns-in_err-axes : goal.returns-in_err-axes
+pub returns-in_err-joined : goal.returns-in_err-joined
 unfolding map_answer
-returns-in_err-axes c =
-    rw (err-is {e = c.in_err-axes.field-0.0} c.from_residual.result c.from_residual.ensures.1) c.in_err-axes.ensures
-
-pub ghosts_of-requires : goal.ghosts_of-requires
-ghosts_of-requires c =
-    let s = c.args.self.shape in
-    let f = c.in_ok-axes.ensures in
-    let sound = map-sound s.count s.dims c.args.self.grid.now c.args.coeffs (omega (arith, c.well_formed)) f.0 in
-    rw (f.1.0, f.1.1) sound.gridded.joined
-
-pub ghosts_of-requires-2 : goal.ghosts_of-requires-2
-ghosts_of-requires-2 c =
-    let s = c.args.self.shape in
-    let f = c.in_ok-axes.ensures in
-    let sound = map-sound s.count s.dims c.args.self.grid.now c.args.coeffs (omega (arith, c.well_formed)) f.0 in
-    rw (f.1.0, f.1.1) sound.gridded.joined
+returns-in_err-joined c =
+    rw (err-is {e = c.in_err-joined.field-0.0} c.from_residual.result c.from_residual.ensures.1) c.in_err-joined.ensures
 
 pub invariant_of-result : goal.invariant_of-result
 invariant_of-result c =
     let s = c.args.self.shape in
-    let f = c.in_ok-axes.ensures in
+    let f = c.in_ok-joined.ensures in
     let four : length s.dims ≡ 4 = omega (arith, c.well_formed) in
     let sound = map-sound s.count s.dims c.args.self.grid.now c.args.coeffs four f.0 in
-    record { ready = record { shape = sound.gridded.shape; four = four; strides-are = rw (f.1.0, f.1.1) at c.strides_of.ensures }; gridded = sound.gridded }
+    record { ready = record { shape = sound.gridded.shape; four = four; strides-are = rw (f.1.0, f.1.1.0) at c.strides_of.ensures }; gridded = sound.gridded }
 
 pub returns : goal.returns
 unfolding map_answer low_ghosts high_ghosts
 returns c =
     let s = c.args.self.shape in
-    let f = c.in_ok-axes.ensures in
+    let f = c.in_ok-joined.ensures in
     let sound = map-sound s.count s.dims c.args.self.grid.now c.args.coeffs (omega (arith, c.well_formed)) f.0 in
-    (f.0, (rw (c.ghosts_of.ensures, c.ghosts_of-2.ensures, f.1.0, f.1.1), record { shape = sound.gridded.shape; sized = sound.sized }))
+    (f.0, (rw (c.ghosts_of.ensures, c.ghosts_of-2.ensures, f.1.0, f.1.1.0, f.1.1.1), record { shape = sound.gridded.shape; sized = sound.sized }))

@@ -6,10 +6,10 @@ use Rattle.rectilinear_map.proofs.of_grid.OfGridMap.axis.Goals as goal
 pub invariant_of-result : goal.invariant_of-result
 invariant_of-result c =
     let g = c.args.self.now in
-    let sound = axis-sound g.count g.dims g.knots.now g.ready.four g.gridded c.args.a c.requires c.axis_knots.ensures in
+    let sound = axis-sound g.count g.dims g.knots.now g.ready.four g.gridded c.args.a c.requires c.along.ensures in
     record { four = sound.0; rising = sound.1 }
 
 pub returns : goal.returns
 returns c =
     let g = c.args.self.now in
-    own-axis binary64 g.count g.dims g.knots.now g.linear g.ready.four g.gridded c.args.a c.requires c.axis_knots.ensures
+    own-axis binary64 g.count g.dims g.knots.now g.linear g.ready.four g.gridded c.args.a c.requires c.along.ensures
