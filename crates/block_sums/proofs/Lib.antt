@@ -1,2 +1,3 @@
 pub mod OfQuery
 pub mod OfBlock
+mod OfSingle

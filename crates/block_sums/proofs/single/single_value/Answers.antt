@@ -1,9 +1,11 @@
-use Rattle.std.proofs.Common.{arith}
-use Rattle.evaluation.proofs.Singles.{single-value, single-value-refused}
+use Rattle.shape.proofs.Exit.{err-is}
+use Rattle.block_sums.proofs.OfSingle.{value-entry}
 use Rattle.block_sums.proofs.single.single_value.Goals as goal
 
-pub returns-then-good-lt1 : goal.returns-then-good-lt1
-returns-then-good-lt1 g c = λ checks. single-value-refused _ _ (c.block-good.ensures checks) c.if-good-lt1.true
+pub returns-in_err-out : goal.returns-in_err-out
+returns-in_err-out g c =
+    rw (err-is {e = c.in_err-out.field-0.0} c.from_residual.result c.from_residual.ensures.1)
+    (λ checks. value-entry _ _ (c.in_err-out.ensures checks))
 
 pub returns : goal.returns
-returns g c = λ checks. single-value _ _ (c.block-good.ensures checks) (omega arith) c.if-good-lt1.false
+returns g c = λ checks. value-entry _ _ (c.in_ok-out.ensures checks)
