@@ -1,8 +1,5 @@
-use Rattle.oracle_list.proofs.CellLaws.{Filled-start, Filled-step, Filled-bad, Filled-done}
+use Rattle.oracle_list.proofs.CellLaws.{Filled-step, Filled-bad, Filled-done}
 use Rattle.oracle_list.proofs.fillings.is_filled.Goals as goal
-
-pub loop-cell-init : goal.loop-cell-init
-loop-cell-init c = Filled-start _ _ _
 
 pub returns-then-not-same_bits : goal.returns-then-not-same_bits
 returns-then-not-same_bits c = search Filled-bad
