@@ -1,7 +1,7 @@
 use native.Mathlib.Omega.{arith}
 use lib.ListN.{take}
 use lib.Seq.{length-take-le}
-use Rattle.map_print.proofs.Printing.{grown, length-floats_text, floats-start, floats-more, floats-done}
+use Rattle.map_print.proofs.Printing.{grown, length-floats_text, floats-start, floats-more}
 use Rattle.map_print.proofs.page.Page.put_floats.Goals as goal
 
 pub loop-x-init : goal.loop-x-init
@@ -14,6 +14,3 @@ put_float-requires _ c =
 
 pub loop-x-preserved : goal.loop-x-preserved
 loop-x-preserved _ c = floats-more _ _ _ _ _ c.loop-x-test.true c.loop-x.invariant c.put_float.ensures
-
-pub returns : goal.returns
-returns _ c = floats-done _ _ _ _ c.loop-x-test.false c.loop-x.invariant
