@@ -1,5 +1,5 @@
 use native.Mathlib.Omega.{arith}
-use Rattle.shape.proofs.Below.{none-start, none_done}
+use Rattle.shape.proofs.Below.{none-start}
 use Rattle.map_spline.proofs.Axes.{axis-found, axis-passed}
 use Rattle.map_spline.proofs.replies.is_outside.Goals as goal
 
@@ -13,6 +13,3 @@ returns-then-is_outside_on g c =
 pub loop-a-preserved : goal.loop-a-preserved
 loop-a-preserved g c =
     axis-passed _ _ c.loop-a.a _ c.loop-a.invariant c.is_outside_on.ensures (omega (arith, c.requires.1, c.loop-a-test.true)) c.if-is_outside_on.false
-
-pub returns : goal.returns
-returns g c = none_done _ _ c.loop-a.a c.loop-a.invariant (omega (arith, c.requires.1, c.loop-a-test.false))
