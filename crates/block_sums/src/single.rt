@@ -24,7 +24,8 @@ fn single<F: Figures, M: Map, const N: usize>(
 ) -> Result<[f64; N], Refusal>
     requires sized { length coeffs.now ≡ size (take (M.view map.now).count (M.view map.now).lens) }
     requires room { ((M.view map.now).count ≤ length x.now) × (F.numbers (M.view map.now).count 1 ≤ N) }
-    ensures { (checks : List Check) → Entries (bad_at (spline_of binary64 (M.view map.now) checks coeffs.now) x.now 1) (F.step (spline_of binary64 (M.view map.now) checks coeffs.now) x.now 1) 1 (replicate N f0) (answer_number result) (answer_or (replicate N f0) result) }
+    ensures { (checks : List Check) → let s = spline_of binary64 (M.view map.now) checks coeffs.now in
+        Entries (bad_at s x.now 1) (F.step s x.now 1) 1 (replicate N f0) (answer_number result) (answer_or (replicate N f0) result) }
 {
     let mut places = [<M::Along as Axis>::blank(); 1];
     let mut spots = [Spot::blank(); 1];
