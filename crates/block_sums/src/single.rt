@@ -1,4 +1,4 @@
-// A single query as a block of one. A value and a gradient are two functions, as they answer different types.
+// A single query as a block of one. A value and a gradient are two functions over one, as they answer different types.
 ghost use Rattle.std.specs.Prelude.{◌≡◌, List, ◌≤◌, length, replicate, take};
 ghost use Rattle.multibspline.specs.Numbers.{f0};
 ghost use Rattle.std.specs.Float.{binary64};

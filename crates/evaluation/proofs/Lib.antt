@@ -8,7 +8,6 @@ pub mod Builds
 pub mod Placing
 pub mod Blocks
 pub mod Striding
-pub mod Singles
 pub mod InUse
 pub mod ByAxis
 pub mod OneQuery

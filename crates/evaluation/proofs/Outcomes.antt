@@ -33,9 +33,6 @@ module _ (s : Spline) (x : List Float) where
   pub value-refused : s.refuses x ≡ true → Answered s x 6 f0
   value-refused bad = record { answers = rw bad; valued = rw bad }
 
-  pub gradient-found : {ps : List Float} → s.refuses x ≡ false → ps ≡ gradient s x → GradientAnswered s x 0 ps
-  gradient-found ok e = record { answers = rw ok; gradient = rw ok e }
-
   pub gradient-refused : {answer : ℕ} {ps : List Float} → s.refuses x ≡ true → answer ≡ 6 → ps ≡ zeros → GradientAnswered s x answer ps
   gradient-refused bad ea ep = record { answers = rw bad ea; gradient = rw bad ep }
 
