@@ -63,7 +63,7 @@ pub fn blank() -> MultiBsplineRegular
     }
 }
 
-// An accepted map: entries of axes not in use are zero.
+// An accepted map: entries of axes not in use are zero. Its parts come one by one, here and below, since there is no record yet.
 fn accepted(
     count: usize,
     dims: [usize; 4],
