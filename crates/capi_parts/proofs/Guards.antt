@@ -19,8 +19,7 @@ use Rattle.shape.specs.Fit.{FitLeaves}
 use Rattle.shape.proofs.Accepted.{refused-append, refusal-append, passed-append, accepted-append}
 use Rattle.shape.proofs.Checks.{length-fails, length-passes}
 use Rattle.ledger.proofs.Stages.{refusal-some, none-refuse}
-use Rattle.evaluation.specs.Spline.{Spline, one_answer, batch_answer, gradient_batch_answer}
-use Rattle.evaluation.specs.Batch.{Batch, ValueBatch, GradientBatch}
+use Rattle.evaluation.specs.Spline.{Spline, one_answer}
 use Rattle.capi_parts.specs.Inputs.{lens_of}
 use Rattle.capi_parts.specs.Outputs.{Wrote}
 use Rattle.capi_parts.specs.Splines.{with_slopes}
@@ -42,23 +41,8 @@ module _ {n : ℕ} (h : n ≡ 0 → ⊥) where
   pub fitted-nothing : {A : Type 0} {k : ℕ} {fit left coefs scratch : List A} → n ≡ k → FitLeaves k fit left coefs scratch coefs scratch
   fitted-nothing e = let b = some e in record { coefficients = rw b; scratch_after = rw b }
 
-  batch-nothing : {lengths : ℕ} {bad : ℕ → Bool} {step : ℕ → List Float → List Float} {m : ℕ} {out : List Float} → n ≡ lengths → Batch lengths bad step m out n out
-  batch-nothing e = let b = some e in record { answers = rw b e; leaves = rw b }
-
   -- a map whose checks refuse
   module _ (s : Spline) (e : n ≡ first_refusal s.checks) where
-    pub one-not : (x : List Float) → n ≡ one_answer s x
-    unfolding one_answer
-    one-not x = refused-some s.checks _ n e h
-
-    pub values-not : (xs out : List Float) → ValueBatch s xs out n out
-    unfolding batch_answer
-    values-not xs out = batch-nothing (refused-some s.checks _ n e h)
-
-    pub gradients-not : (xs out : List Float) → GradientBatch s xs out n out
-    unfolding gradient_batch_answer
-    gradients-not xs out = batch-nothing (refused-some s.checks _ n e h)
-
     pub slopes-not : (slopes : ℕ) (x : List Float) → n ≡ one_answer (with_slopes slopes s) x
     unfolding one_answer
     slopes-not slopes x = refused-some (s.checks ++ length_check s.axes slopes) _ n (refused-some s.checks (length_check s.axes slopes) n e h) h

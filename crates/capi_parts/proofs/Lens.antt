@@ -2,20 +2,13 @@
 use mathlib.Core.Path.{◌≡◌, refl}
 use mathlib.Core.Bool.{Bool, true, false, cond}
 use mathlib.Core.List.{List, [], ◌∷◌}
-use Prim.Native.Nat.{ℕ, zero, suc, ◌<◌}
-use native.Mathlib.Nat.{not-suc-le-zero, le_of_suc-le-suc}
+use Prim.Native.Nat.{ℕ}
 use native.Mathlib.Omega.{arith}
 use lib.Dec.{ltb}
 use lib.ListN.{length, get_or}
 use borrow.Author.Tests.{lt-ltb}
 use Rattle.evaluation.specs.Axes.{in_use}
 use Rattle.capi_parts.specs.Inputs.{lens_of, AxesAre}
-
--- what stands within a list does not depend on what is read past its end
-pub within : {A : Type 0} (xs : List A) (i : ℕ) (d e : A) → i < length xs → get_or xs i d ≡ get_or xs i e
-within [] i d e h = absurd (not-suc-le-zero h)
-within (x ∷ xs) zero d e h = refl
-within (x ∷ xs) (suc i) d e h = within xs i d e (le_of_suc-le-suc h)
 
 pub axes-are-dims : AxesAre
 unfolding lens_of
