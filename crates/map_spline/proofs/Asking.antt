@@ -1,11 +1,9 @@
 -- What a query's answers give. Assumes nothing.
-use mathlib.Core.Path.{◌≡◌, sym, ap, ◌∙◌}
-use mathlib.Core.Bool.{Bool, false, ◌&&◌}
+use mathlib.Core.Path.{◌≡◌, sym}
 use mathlib.Core.List.{List}
 use native.Mathlib.Omega.{arith}
-use lib.ListN.{length, take}
+use lib.ListN.{length}
 use lib.Ieee.{Float, binary64}
-use borrow.Author.Tests.{eq-eqb, ne_eqb}
 use Rattle.std.proofs.Common.{rules}
 use Rattle.std.specs.Prelude.{Result, Ok, Err, IfOk}
 use Rattle.multibspline.specs.Numbers.{f0}
@@ -25,29 +23,14 @@ use Rattle.rectilinear_blocks.specs.Eval.{rectilinear}
 use Rattle.rectilinear_map.specs.Place.{grid_checks}
 use Rattle.rectilinear_map.specs.Laws as Rectilinear
 use Rattle.rectilinear_map.proofs.Placing.{map-grid}
-use Rattle.map_spline.specs.Surface.{Surface, asked_number, asked_gradient, asked_outside, Answered}
+use Rattle.map_spline.specs.Surface.{Surface, asked_number, Answered}
 use Rattle.map_spline.specs.declared.replies.Reply.{Reply}
 
 pub replied : (s : Surface) (x : List Float) (reply : Reply) → OneValue s.spline x 0 reply.value → OneGradient s.spline x 0 reply.parts → reply.outside ≡ s.outside x → Answered s x reply
 replied s x reply v g o = record { accepted = sym v.answers; value_is = v.valued; gradient-is = g.gradient; outside-is = o }
 
--- ---- what a reply says
-
-module _ {s : Surface} {x : List Float} {reply : Reply} (r : Answered s x reply) where
-  pub four-parts : length reply.parts ≡ 4
-  four-parts = ap length r.gradient-is
-
-  pub replied-gradient : take s.spline.axes reply.parts ≡ asked_gradient s x
-  replied-gradient = ap (take s.spline.axes) r.gradient-is
-
-  pub replied-outside : reply.outside ≡ asked_outside s x
-  replied-outside = r.outside-is ∙ ap (λ (t : Bool). t && s.outside x) (sym (eq-eqb (asked_number s x) 0 r.accepted))
-
 pub refused-number : (s : Surface) (x : List Float) (refusal : Refusal) → asked_number s x ≡ refusal_number refusal → asked_number s x ≡ 0 → ⊥
 refused-number s x refusal e z = let above = refusal-suc refusal in omega (arith, e, z, above)
-
-pub refused-outside : (s : Surface) (x : List Float) (refusal : Refusal) → asked_number s x ≡ refusal_number refusal → false ≡ asked_outside s x
-refused-outside s x refusal e = ap (λ (t : Bool). t && s.outside x) (sym (ne_eqb (asked_number s x) 0 (refused-number s x refusal e)))
 
 -- what an answered query says of the map, whose checks have passed, and of its length
 pub regular-asked : (m : RegularMap) (coefs x : List Float) (value : Float) → OneValue (regular binary64 m coefs) x 0 value
