@@ -1,6 +1,7 @@
 pub mod Compare
 pub mod Increase
 pub mod Counts
+pub mod Eights
 pub mod Totals
 pub mod NanKnots
 pub mod Places

@@ -1,11 +1,24 @@
 // Whether knots rise, and how many are below a query.
-ghost use Rattle.std.specs.Prelude.{◌≡◌, true, cond, ◌+◌, ◌-◌, ◌*◌, ◌/◌, ◌≤◌, length};
+ghost use Rattle.std.specs.Prelude.{◌≡◌, true, cond, ◌+◌, ◌-◌, ◌*◌, ◌/◌, ◌≤◌, length, take, drop};
 ghost use Rattle.std.specs.Float.Ieee.{lt};
 ghost use Rattle.knots.specs.Knots.{rises, count_below};
 ghost use Rattle.knots.specs.Window.{Between};
 
-// Whether each knot is above the one before it.
-pub fn rising(knots: &[f64]) -> bool
+use std::simd::prelude::*;
+
+// Whether nine knots rise, from a number on: eight are compared at once with those after them.
+fn nine_rise(knots: &[f64], from: usize) -> bool
+    requires { from + 9 ≤ length knots.now }
+    ensures { result ≡ rises (take 9 (drop from knots.now)) }
+{
+    let on = &knots[from..];
+    let before = f64x8::from_slice(on);
+    let after = f64x8::from_slice(&on[1..]);
+    before.simd_lt(after).all()
+}
+
+// Whether knots rise, each looked at by itself.
+fn few_rise(knots: &[f64]) -> bool
     ensures { result ≡ rises knots.now }
 {
     if knots.is_empty() {
@@ -15,6 +28,17 @@ pub fn rising(knots: &[f64]) -> bool
         .iter()
         .zip(&knots[1..])
         .all(|(before, knot)| *before < *knot)
+}
+
+// Whether each knot is above the one before it. They are looked at eight at a time, and what is left one by one.
+pub fn rising(knots: &[f64]) -> bool
+    ensures { result ≡ rises knots.now }
+{
+    if knots.is_empty() {
+        return true;
+    }
+    let eights = (knots.len() - 1) / 8;
+    (0..eights).all(|k| nine_rise(knots, 8 * k)) && few_rise(&knots[8 * eights..])
 }
 
 // 1 where the knot is below x, else 0: a number to add, so that nothing jumps on the data.

@@ -1,20 +1,35 @@
-use mathlib.Core.Path.{◌∙◌}
+use mathlib.Core.Path.{◌≡◌, refl, ap, sym, ◌∙◌}
+use mathlib.Core.Bool.{Bool, ◌&&◌}
 use native.Mathlib.Omega.{arith}
-use lib.ListN.{length-drop}
+use Prim.Native.Nat.{ℕ, ◌*◌, ◌-◌, ◌/◌, ◌<◌}
+use lib.ListN.{length, take, drop, length-drop}
 use lib.Seq.{take_all}
-use lib.Ieee.{Float, lt}
 use Rattle.std.proofs.Common.{rules, tests}
-use Rattle.std.proofs.lemmas.Iterator.{YieldsList-from_slice, YieldsList-from_zip}
+use Rattle.std.proofs.lemmas.Iterator.{YieldsList-from_range}
 use Rattle.std.proofs.lemmas.Iterator.Search.{all_from_yields_List}
-use Rattle.knots.proofs.Increase.{rises-by-pairs, rises-short}
+use Rattle.knots.specs.Knots.{rises}
+use Rattle.knots.proofs.Increase.{rises-short}
+use Rattle.knots.proofs.Eights.{nine, nines}
 use Rattle.knots.proofs.order.rising.Goals as goal
 
 pub returns-then-is_empty : goal.returns-then-is_empty
 returns-then-is_empty c = search (rules, tests, rises-short)
 
-pub returns : goal.returns
-returns c =
-    all_from_yields_List (λ (p : Float × Float). lt p.0 p.1) c.all.new.self _ _ c.all.ensures.ran
-    (YieldsList-from_zip (YieldsList-from_slice c.args.knots.now cc) (YieldsList-from_slice _ (c.zip.ensures.second.0 ∙ take_all _ _ (rw (length-drop 1 c.args.knots.now) (omega arith)))))
-    (λ x b q k. search (rules, tests))
-    ∙ rises-by-pairs c.args.knots.now
+pub returns-then-all : goal.returns-then-all
+returns-then-all c =
+    let ks = c.args.knots.now in
+    let k = (length ks - 1) / 8 in
+    let nine_by_nine = all_from_yields_List (nine ks) c.all.new.self _ _ c.all.ensures.ran (YieldsList-from_range 0 k k refl (omega arith)) (λ x b q i. search (rules, tests)) in
+    let rest = drop (8 * k) ks in
+    let some : 0 < length ks = search (rules, tests) in
+    let whole : take (length ks - 8 * k) rest ≡ rest = take_all (length ks - 8 * k) rest (omega (arith, length-drop (8 * k) ks)) in
+    c.few_rise.ensures ∙ ap rises whole ∙ ap (λ (b : Bool). b && rises rest) (sym c.if-all.true ∙ nine_by_nine) ∙ nines ks k (omega (arith, some))
+
+pub returns-else-all : goal.returns-else-all
+returns-else-all c =
+    let ks = c.args.knots.now in
+    let k = (length ks - 1) / 8 in
+    let nine_by_nine = all_from_yields_List (nine ks) c.all.new.self _ _ c.all.ensures.ran (YieldsList-from_range 0 k k refl (omega arith)) (λ x b q i. search (rules, tests)) in
+    let rest = drop (8 * k) ks in
+    let some : 0 < length ks = search (rules, tests) in
+    c.if-all.false ∙ ap (λ (b : Bool). b && rises rest) (sym c.if-all.false ∙ nine_by_nine) ∙ nines ks k (omega (arith, some))
