@@ -1,5 +1,5 @@
 // Tests and products of the lengths of axes, axis 0 first.
-ghost use Rattle.std.specs.Prelude.{◌≡◌, false, ◌≤◌, min};
+ghost use Rattle.std.specs.Prelude.{◌≡◌, false, ◌≤◌, length, min};
 ghost use Rattle.shape.specs.Shape.{product, longest, size, NotEmpty};
 ghost use Rattle.shape.specs.Checks.{any_short, most_points};
 
@@ -34,14 +34,23 @@ pub fn points_to_limit(dims: &[usize]) -> usize
     total
 }
 
+// These lengths, which are at most four: said to the compiler too, which then writes four turns out and makes no loop for many.
+fn at_most_four(dims: &[usize]) -> &[usize]
+    requires { length dims.now ≤ 4 }
+    ensures { result.now ≡ dims.now }
+{
+    &dims[..dims.len().min(4)]
+}
+
 // The product of the lengths of some axes of an accepted map.
 pub fn span(dims: &[usize]) -> usize
     requires positive { NotEmpty dims.now }
     requires few { product dims.now ≤ most_points }
+    requires short { length dims.now ≤ 4 }
     ensures { result ≡ product dims.now }
 {
     let mut total: usize = 1;
-    for n in dims {
+    for n in at_most_four(dims) {
         total *= *n;
     }
     total
@@ -49,10 +58,11 @@ pub fn span(dims: &[usize]) -> usize
 
 // The longest of the axes.
 pub fn longest_of(dims: &[usize]) -> usize
+    requires { length dims.now ≤ 4 }
     ensures { result ≡ longest dims.now }
 {
     let mut most: usize = 0;
-    for n in dims {
+    for n in at_most_four(dims) {
         most = most.max(*n);
     }
     most
