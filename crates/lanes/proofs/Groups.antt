@@ -5,6 +5,7 @@ use Prim.Native.Nat.{ℕ, zero, suc, ◌+◌, ◌-◌, ◌*◌, ◌/◌, ◌%◌
 use native.Mathlib.Nat.{mul-le-mul_right, suc-mul, div-one, mod-one}
 use native.Mathlib.Omega.{arith}
 use lib.ListN.{length, set, take, length-set}
+use lib.Seq.{set-set}
 use lib.Ieee.{Float, nan}
 use Rattle.shape.specs.Shape.{product, first_cell, line_of, place_of}
 use Rattle.shape.specs.Cells.{put, from, on_line, line}
@@ -12,6 +13,7 @@ use Rattle.shape.specs.Fit.{Looks, solve_line, solve_lines, line_scratch, line_l
 use Rattle.shape.specs.Usable.{LinesWithin}
 use Rattle.shape.proofs.Accepted.{AxisIs}
 use Rattle.shape.proofs.Cells.{length-put, put_next, put-ext, from_in}
+use Rattle.shape.proofs.Scratch.{put-over}
 use Rattle.shape.proofs.Fit.{earlier}
 use Rattle.shape.proofs.Radix.{quot, rem, line_of-cell, place_of-cell}
 use Rattle.multibspline.specs.Thomas.{at}
@@ -140,26 +142,40 @@ module _ {m : ℕ} {g : ℕ → Float} {n : ℕ} {u₀ : List Float} where
     cells = put_next (from m) g i u₀ u u' _ w.cells e new;
   }
 
--- upper number i from the one before it
-module _ {g : ℕ → Float} {n : ℕ} {u₀ : List Float} (next : ℕ → Float → Float) (starts : (x : Float) → next 0 x ≡ g 0) (goes : (i : ℕ) → suc i < n → next (suc i) (g i) ≡ g (suc i)) where
-  pub uppers-step : {u u' : List Float} {i : ℕ} → Filled 0 g n u₀ u i → i < n → n ≤ length u₀ → u' ≡ set u i (next i (at u (i - 1))) → Filled 0 g n u₀ u' (i + 1)
-  uppers-step {u} {u'} {i} w h fits e = let z : i ≡ 0 + i = omega arith in filled_next w h (e ∙ ap (λ (k : ℕ). set u k (next i (at u (i - 1)))) z) (here i w.cells h)
-    where
-      here : (i : ℕ) → u ≡ put (from 0) g i u₀ → i < n → next i (at u (i - 1)) ≡ g i
-      here zero c h = starts (at u (0 - 1))
-      here (suc k) c h =
-          let a : suc k - 1 ≡ k = omega arith in
-          let z : k ≡ 0 + k = omega arith in
-          let b : at u k ≡ g k = rw c (ap (at (put (from 0) g (suc k) u₀)) z ∙ from_in 0 g (suc k) u₀ nan k (omega arith) (omega arith)) in
-          rw (a, b) (goes k h)
+  -- what stands there
+  pub filled-here : {u : List Float} {i : ℕ} → Filled m g n u₀ u i → (k : ℕ) → k < i → m + n ≤ length u₀ → at u (m + k) ≡ g k
+  filled-here {i = i} w k h fits = rw w.cells (from_in m g i u₀ nan k h (omega (arith, w.most)))
+
+-- the first number is set before; each other comes of the one before it
+module _ {g : ℕ → Float} {n : ℕ} where
+  pub filled-first : (u₀ : List Float) {v : Float} → 0 < n → v ≡ g 0 → Filled 0 g n (set u₀ 0 v) (set u₀ 0 v) 1
+  filled-first u₀ some e = record {
+    most = omega arith;
+    size = refl;
+    cells = rw e (sym (set-set u₀ 0 (g 0) (g 0)));
+  }
+
+  pub filled-by : (next : Float → Float) {u₀ u u' : List Float} {i : ℕ} {v : Float} → Filled 0 g n u₀ u i → 0 < i → i < n → n ≤ length u₀
+      → u' ≡ set u i v → v ≡ next (at u (i - 1)) → next (g (i - 1)) ≡ g i → Filled 0 g n u₀ u' (i + 1)
+  filled-by next {u₀} {u} {i = i} {v} w some h fits e ev goes =
+      let z : 0 + (i - 1) ≡ i - 1 = omega arith in
+      let before : at u (i - 1) ≡ g (i - 1) = rw z at (filled-here w (i - 1) (omega arith) (omega arith)) in
+      let here : i ≡ 0 + i = omega arith in
+      filled_next w h (e ∙ ap (λ (k : ℕ). set u k v) here) (ev ∙ ap next before ∙ goes)
+
+  pub filled-all : (u₀ : List Float) (v : Float) {u : List Float} {i : ℕ} → Filled 0 g n (set u₀ 0 v) u i → n ≤ i → 0 < n → u ≡ put (from 0) g n u₀
+  filled-all u₀ v {u} {i} w whole some =
+      let same : i ≡ suc (n - 1) = omega (arith, w.most) in
+      let all : suc (n - 1) ≡ n = omega arith in
+      w.cells ∙ rw same (put-over (from 0) g (n - 1) u₀ v) ∙ ap (λ (k : ℕ). put (from 0) g k u₀) all
 
 -- what is put there is what a line's elimination has, whatever its samples
-pub uppers-hold : (upper : (ℕ → Float) → ℕ → Float) (n : ℕ) (u₀ u : List Float) → ((y : ℕ → Float) (i : ℕ) → upper zero_samples i ≡ upper y i) → u ≡ put (from 0) (upper zero_samples) n u₀ → n ≤ length u₀ → Uppers upper n u
+pub uppers-hold : (upper : (ℕ → Float) → ℕ → Float) (n : ℕ) (u₀ u : List Float) → ((y : ℕ → Float) (i : ℕ) → i < n → upper zero_samples i ≡ upper y i) → u ≡ put (from 0) (upper zero_samples) n u₀ → n ≤ length u₀ → Uppers upper n u
 uppers-hold upper n u₀ u same e fits = record {
   room = omega (arith, ap length e ∙ length-put (from 0) (upper zero_samples) n u₀);
   hold = (λ y i h.
       let a : 0 + i ≡ i = omega arith in
-      rw e (rw a at (from_in 0 (upper zero_samples) n u₀ nan i h (omega arith))) ∙ same y i);
+      rw e (rw a at (from_in 0 (upper zero_samples) n u₀ nan i h (omega arith))) ∙ same y i h);
 }
 
 -- ---- what an axis leaves in scratch
@@ -176,9 +192,9 @@ module _ (upper c : (ℕ → Float) → ℕ → Float) (n s total m : ℕ) (xs�
       rw (eb, e) (rw (on, place) at (earlier nan c n s hs looks (omega (arith, w.four-points)) xs₀ total w.inside cell (omega arith)))
 
   -- the upper numbers first, the last line after
-  pub axis-leaves : (b : ℕ) (ss₁ xs ss₂ : List Float) → ((y : ℕ → Float) (i : ℕ) → upper zero_samples i ≡ upper y i) → b ≡ first_cell n s (total - 1)
+  pub axis-leaves : (b : ℕ) (ss₁ xs ss₂ : List Float) → ((y : ℕ → Float) (i : ℕ) → i < n → upper zero_samples i ≡ upper y i) → b ≡ first_cell n s (total - 1)
       → ss₁ ≡ put (from 0) (upper zero_samples) n ss₀ → xs ≡ solve_lines nan c n s total xs₀ → ss₂ ≡ put (from m) (line nan b s xs) n ss₁ → ss₂ ≡ line_leaves nan upper c n s m (total - 1) xs₀ ss₀
   unfolding line_leaves line_scratch
   axis-leaves b ss₁ xs ss₂ same eb e₁ e₂ e₃ =
       e₃ ∙ rw e₁ (put-ext (from m) _ _ n _ (last_line b xs eb e₂)
-      ∙ ap (put (from m) (c (line nan (first_cell n s (total - 1)) s xs₀)) n) (put-ext (from 0) _ _ n ss₀ (λ k h. same _ k)))
+      ∙ ap (put (from m) (c (line nan (first_cell n s (total - 1)) s xs₀)) n) (put-ext (from 0) _ _ n ss₀ (λ k h. same _ k h)))

@@ -1,6 +1,6 @@
 -- A group of lanes by its numbers, and the rows of a system done to all of its lanes at once. For contracts inside the library.
 -- Assumes nothing.
-use Rattle.std.specs.Prelude.{◌≡◌, cond, List, ℕ, ◌-◌, ◌*◌, eqb, Float}
+use Rattle.std.specs.Prelude.{◌≡◌, List, ℕ, ◌-◌, ◌*◌, Float}
 use Rattle.std.specs.Float.Ieee as Ieee
 use Rattle.std.specs.Float.{Format}
 use Rattle.shape.specs.Cells.{on_line}
@@ -55,10 +55,6 @@ left_denom f left above = Ieee.sub f left.diag (Ieee.mul f left.lower above)
 -- the upper number of a row, from that of the row before
 abbrev pub upper_from : Format → Left → Float → Float
 upper_from f left above = Ieee.div f left.upper (left_denom f left above)
-
--- upper number i, from the one before it
-unfoldable pub upper_next : Format → Rows → ℕ → Float → Float
-upper_next f s i above = cond (eqb i 0) s.first_upper (upper_from f (cond (eqb i (s.points - 1)) s.last (s.inner i)) above)
 
 -- a row between the ends, with the row before it eliminated
 abbrev pub inner_cell : Format → (Float → Float) → Float → Float → Float → Float → Float

@@ -1,9 +1,9 @@
 -- The tridiagonal system of the lines of one axis, and the Thomas algorithm on it. Of a line of n points, n samples y give n
 -- coefficients x. The left side of a row is the same for every line, since no sample is in it; its right side comes from the
 -- sample of the row, in the first and the last row also from that of the row beside it. Assumes nothing.
-use Rattle.std.specs.Prelude.{ℕ, ◌-◌, cond, eqb, Float}
+use Rattle.std.specs.Prelude.{ℕ, ◌-◌, List, Float}
 use Rattle.std.specs.Float.{Format}
-use Rattle.multibspline.specs.Thomas.{Left, Row, Reduced, with_right, forward, solution}
+use Rattle.multibspline.specs.Thomas.{Left, Row, Reduced, with_right, forward, at, uppers, rights, solution}
 
 -- the rows of a system of `points` rows
 pub record Rows : Type 0 where
@@ -28,18 +28,17 @@ module _ (s : Rows) (y : ℕ → Float) where
   abbrev pub last_row : Row
   last_row = with_right s.last (s.last_right (y (s.points - 1)) (y (s.points - 2)))
 
-  -- row i, after the first
-  abbrev pub row : ℕ → Row
-  row i = cond (eqb i (s.points - 1)) last_row (inner_row i)
+  -- the rows reduced, from the first to the last
+  abbrev pub reduced : Format → List Reduced
+  reduced f = forward f first_row inner_row last_row s.points
 
-  -- row i reduced
-  abbrev pub reduced : Format → ℕ → Reduced
-  reduced f i = forward f first_row row i
-
--- its upper number
+-- upper number i, and the right side of row i, reduced
 abbrev pub upper_number : Format → Rows → (ℕ → Float) → ℕ → Float
-upper_number f s y i = (reduced s y f i).upper
+upper_number f s y i = at (uppers (reduced s y f)) i
+
+abbrev pub right_side : Format → Rows → (ℕ → Float) → ℕ → Float
+right_side f s y i = at (rights (reduced s y f)) i
 
 -- coefficient i
 abbrev pub coefficient : Format → Rows → (ℕ → Float) → ℕ → Float
-coefficient f s y i = solution f (first_row s y) (row s y) s.points i
+coefficient f s y i = solution f (first_row s y) (inner_row s y) (last_row s y) s.points i

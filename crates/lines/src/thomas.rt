@@ -4,11 +4,10 @@ ghost use Rattle.std.specs.Prelude.{◌≡◌, ℕ, ◌+◌, ◌-◌, ◌<◌, l
 ghost use Rattle.std.specs.Float.{binary64};
 ghost use Rattle.shape.specs.Cells.{write_line};
 ghost use Rattle.shape.specs.Fit.{line_scratch};
-ghost use Rattle.multibspline.specs.Thomas as Thomas;
-ghost use Rattle.multibspline.specs.Thomas.{reduce};
+ghost use Rattle.multibspline.specs.Thomas.{reduce, inner_reduced};
 ghost use Rattle.multibspline.specs.Scratch.{with_reduced};
 ghost use Rattle.multibspline.specs.Records.{reduced_of, samples, LineRoom};
-ghost use Rattle.lines.specs.Rows.{first_row, inner_row, last_row, reduced, upper_number, coefficient};
+ghost use Rattle.lines.specs.Rows.{first_row, inner_row, last_row, upper_number, right_side, coefficient};
 ghost use Rattle.lines.specs.Records.{LineOf};
 
 use crate::system::System;
@@ -60,10 +59,10 @@ fn inner_rows<S: System>(
 ) -> Reduced
     requires of { LineOf (S.rows system) along (length coeffs.now) }
     requires room { LineRoom along (length scratch.old) }
-    ensures result_value { reduced_of result ≡ Thomas.forward binary64 (reduced_of «first») (inner_row (S.rows system) (samples along coeffs.now)) (along.n - 2) }
+    ensures result_value { reduced_of result ≡ inner_reduced binary64 (reduced_of «first») (inner_row (S.rows system) (samples along coeffs.now)) (along.n - 2) }
     ensures scratch_after { scratch.new ≡ line_scratch along.longest
-        (λ k. (Thomas.forward binary64 (reduced_of «first») (inner_row (S.rows system) (samples along coeffs.now)) k).upper)
-        (λ k. (Thomas.forward binary64 (reduced_of «first») (inner_row (S.rows system) (samples along coeffs.now)) k).right)
+        (λ k. (inner_reduced binary64 (reduced_of «first») (inner_row (S.rows system) (samples along coeffs.now)) k).upper)
+        (λ k. (inner_reduced binary64 (reduced_of «first») (inner_row (S.rows system) (samples along coeffs.now)) k).right)
         (along.n - 1) scratch.old }
 {
     keep_row(0, along.longest, first, scratch);
@@ -96,7 +95,7 @@ fn forward<S: System>(system: S, along: Line, coeffs: &[f64], scratch: &mut [f64
     requires room { LineRoom along (length scratch.old) }
     ensures { scratch.new ≡ line_scratch along.longest
         (upper_number binary64 (S.rows system) (samples along coeffs.now))
-        (λ i. (reduced (S.rows system) (samples along coeffs.now) binary64 i).right) along.n scratch.old }
+        (right_side binary64 (S.rows system) (samples along coeffs.now)) along.n scratch.old }
 {
     let first = first_row(system, along, coeffs);
     let before = inner_rows(system, along, first, coeffs, scratch);

@@ -12,7 +12,7 @@ use Rattle.shape.specs.Cells.{put, from, on_line, write_line}
 use Rattle.shape.specs.Fit.{line_scratch}
 use Rattle.shape.proofs.Cells.{put-ext, from-unique, line-apart}
 use Rattle.shape.proofs.Scratch.{put-set, scratch-upper, scratch-right, scratch-next, scratch-over, scratch-ext, scratch-solved, length-scratch}
-use Rattle.multibspline.specs.Thomas.{Row, Reduced, at, reduce, forward, back, back_at, back_step, solution}
+use Rattle.multibspline.specs.Thomas.{Row, Reduced, at, uppers, rights, reduce, inner_reduced, last_reduced, forward, back, back_at, back_step, solution}
 use Rattle.multibspline.specs.Scratch.{with_reduced, solved, put_down}
 
 -- ---- the copy of the samples: cells below i are copied
@@ -31,8 +31,8 @@ pub record Eliminated (f : Format) (first : Reduced) (row : ℕ → Row) (n m : 
   pub some : 0 < i
   pub most : i ≤ n
   pub length-s : length s ≡ length s₀
-  pub here : r ≡ forward f first row (i - 1)
-  pub rows : s ≡ line_scratch m (λ k. (forward f first row k).upper) (λ k. (forward f first row k).right) i s₀
+  pub here : r ≡ inner_reduced f first row (i - 1)
+  pub rows : s ≡ line_scratch m (λ k. (inner_reduced f first row k).upper) (λ k. (inner_reduced f first row k).right) i s₀
 
 -- a row that is kept, by the row that it is
 pub row_kept : (f : Format) (m i : ℕ) (row row' : Row) (before r : Reduced) (s s' : List Float) → row ≡ row' → r ≡ reduce f row before → s' ≡ with_reduced m i r s → s' ≡ with_reduced m i (reduce f row' before) s
@@ -40,10 +40,10 @@ row_kept f m i row row' before r s s' same er e = e ∙ ap (λ (q : Reduced). wi
 
 -- row 0 is set again
 elim-over : (f : Format) (first : Reduced) (row : ℕ → Row) (m : ℕ) (s s₀ : List Float) (i : ℕ) → 0 < i → i ≤ m → s₀ ≡ with_reduced m 0 first s
-    → line_scratch m (λ k. (forward f first row k).upper) (λ k. (forward f first row k).right) i s₀ ≡ line_scratch m (λ k. (forward f first row k).upper) (λ k. (forward f first row k).right) i s
+    → line_scratch m (λ k. (inner_reduced f first row k).upper) (λ k. (inner_reduced f first row k).right) i s₀ ≡ line_scratch m (λ k. (inner_reduced f first row k).upper) (λ k. (inner_reduced f first row k).right) i s
 elim-over f first row m s s₀ i pos room e =
     let z : m + 0 ≡ m = omega arith in
-    rw e (rw z (scratch-over m (λ k. (forward f first row k).upper) (λ k. (forward f first row k).right) i s first.upper first.right pos room))
+    rw e (rw z (scratch-over m (λ k. (inner_reduced f first row k).upper) (λ k. (inner_reduced f first row k).right) i s first.upper first.right pos room))
 
 module _ {f : Format} {first : Reduced} {row : ℕ → Row} {n m : ℕ} where
   pub elim-start : (s : List Float) {s₀ : List Float} → 0 < n → n ≤ m → s₀ ≡ with_reduced m 0 first s → Eliminated f first row n m s₀ s₀ 1 first
@@ -53,7 +53,7 @@ module _ {f : Format} {first : Reduced} {row : ℕ → Row} {n m : ℕ} where
     most = omega arith;
     length-s = refl;
     here = refl;
-    rows = scratch-next m (λ k. (forward f first row k).upper) (λ k. (forward f first row k).right) 0 s s s₀ _ _ (omega arith) refl e refl refl ∙ sym (elim-over f first row m s s₀ 1 (omega arith) (omega arith) e);
+    rows = scratch-next m (λ k. (inner_reduced f first row k).upper) (λ k. (inner_reduced f first row k).right) 0 s s s₀ _ _ (omega arith) refl e refl refl ∙ sym (elim-over f first row m s s₀ 1 (omega arith) (omega arith) e);
   }
 
   pub elim-step : {s₀ s s' : List Float} {i : ℕ} {r r' : Reduced} → Eliminated f first row n m s₀ s i r → i < n → n ≤ m
@@ -63,21 +63,21 @@ module _ {f : Format} {first : Reduced} {row : ℕ → Row} {n m : ℕ} where
   elim-step {s₀} {s} {s'} {i = suc j} {r} {r'} e h room er new =
       let k : suc j - 1 ≡ j = omega arith in
       let k' : suc j + 1 - 1 ≡ suc j = omega arith in
-      let now : r' ≡ forward f first row (suc j) = er ∙ ap (reduce f (row (suc j))) (e.here ∙ ap (λ (q : ℕ). forward f first row q) k) in
+      let now : r' ≡ inner_reduced f first row (suc j) = er ∙ ap (reduce f (row (suc j))) (e.here ∙ ap (λ (q : ℕ). inner_reduced f first row q) k) in
       record {
         some = omega arith;
         most = omega arith;
         length-s = ap length new ∙ simp length-set e.length-s;
-        here = now ∙ ap (λ (q : ℕ). forward f first row q) (sym k');
+        here = now ∙ ap (λ (q : ℕ). inner_reduced f first row q) (sym k');
         rows = scratch-next m _ _ (suc j) s₀ s s' _ _ (omega arith) e.rows new (ap (λ (q : Reduced). q.upper) now) (ap (λ (q : Reduced). q.right) now);
       }
 
   -- all of the n rows
-  pub elim-last : {s₀ s : List Float} {i : ℕ} {r : Reduced} → Eliminated f first row n m s₀ s i r → n ≤ i → (k : ℕ) → k ≡ n - 1 → r ≡ forward f first row k
+  pub elim-last : {s₀ s : List Float} {i : ℕ} {r : Reduced} → Eliminated f first row n m s₀ s i r → n ≤ i → (k : ℕ) → k ≡ n - 1 → r ≡ inner_reduced f first row k
   elim-last {i} e h k ek = let same : i ≡ n = omega (arith, e.most) in rw (same, ← ek) at e.here
 
   pub elim-done : (s : List Float) {s₀ s' : List Float} {i : ℕ} {r : Reduced} → Eliminated f first row n m s₀ s' i r → n ≤ i → n ≤ m → s₀ ≡ with_reduced m 0 first s
-      → s' ≡ line_scratch m (λ k. (forward f first row k).upper) (λ k. (forward f first row k).right) n s
+      → s' ≡ line_scratch m (λ k. (inner_reduced f first row k).upper) (λ k. (inner_reduced f first row k).right) n s
   elim-done s {s₀} {i = i} e h room e₀ = let same : i ≡ n = omega (arith, e.most) in rw same at e.rows ∙ elim-over f first row m s s₀ n (omega (arith, e.some)) room e₀
 
 -- ---- back substitution: rows from i on are done
@@ -95,40 +95,6 @@ back-ext f u r u' r' last eu er (suc m) = rw (eu (last - suc m) (omega arith), e
 -- the last right side is the last coefficient
 pub back_last : (f : Format) (upper right : ℕ → Float) (last : ℕ) → right last ≡ back_at f upper right last last
 back_last f upper right last = let a : last - last ≡ 0 = omega arith in rw a
-
--- ---- systems whose rows agree have the same reduced rows and the same solution
-
-module _ (f : Format) (n : ℕ) (first first' : Reduced) (row row' : ℕ → Row) (same_first : first ≡ first') (same_row : (k : ℕ) → 0 < k → k < n → row k ≡ row' k) where
-  pub forward-ext : (i : ℕ) → i < n → forward f first row i ≡ forward f first' row' i
-  forward-ext zero h = same_first
-  forward-ext (suc i) h = rw (same_row (suc i) (omega arith) h, forward-ext i (omega arith))
-
-  pub upper-ext : (i : ℕ) → i < n → (forward f first row i).upper ≡ (forward f first' row' i).upper
-  upper-ext i h = ap (λ (r : Reduced). r.upper) (forward-ext i h)
-
-  pub solution-ext : 0 < n → (i : ℕ) → solution f first row n i ≡ solution f first' row' n i
-  solution-ext pos i =
-      back-ext f _ _ _ _ (n - 1) (λ k h. upper-ext k (omega arith)) (λ k h. ap (λ (r : Reduced). r.right) (forward-ext k (omega arith))) (n - 1 - i)
-
--- ---- all rows: those between the ends, and then the last
-
-module _ (f : Format) (first first' : Reduced) (inner row : ℕ → Row) (last : Row) (n m : ℕ) (s₀ s₁ s₂ : List Float) (before : Reduced) (four : 4 ≤ n) (room : n ≤ m)
-    (same_first : first ≡ first') (same_row : (k : ℕ) → 0 < k → k < n - 1 → inner k ≡ row k) (same-last : last ≡ row (n - 1)) where
-  pub elim-whole : before ≡ forward f first inner (n - 2) → s₁ ≡ line_scratch m (λ k. (forward f first inner k).upper) (λ k. (forward f first inner k).right) (n - 1) s₀
-      → s₂ ≡ with_reduced m (n - 1) (reduce f last before) s₁
-      → s₂ ≡ line_scratch m (λ k. (forward f first' row k).upper) (λ k. (forward f first' row k).right) n s₀
-  elim-whole eb e₁ e₂ =
-      let a : n - 1 + 1 ≡ n = omega arith in
-      let b : n - 2 ≡ n - 1 - 1 = omega arith in
-      let ext = forward-ext f (n - 1) first first' inner row same_first same_row in
-      let most : Eliminated f first' row n m s₀ s₁ (n - 1) before = record {
-        some = omega arith;
-        most = omega arith;
-        length-s = ap length e₁ ∙ length-scratch m _ _ (n - 1) s₀;
-        here = eb ∙ ap (λ (k : ℕ). forward f first inner k) b ∙ ext (n - 1 - 1) (omega arith);
-        rows = e₁ ∙ scratch-ext m _ _ _ _ (n - 1) s₀ (λ k h. ap (λ (r : Reduced). r.upper) (ext k h)) (λ k h. ap (λ (r : Reduced). r.right) (ext k h));
-      } in
-      rw a at (elim-step most (omega arith) room (ap (λ (r : Row). reduce f r before) same-last) e₂).rows
 
 -- x is the coefficient of row i, and l has those of the rows from i on but the last's
 pub record Substituted (f : Format) (base stride n m : ℕ) (l₀ s₀ l s : List Float) (i : ℕ) (x : Float) : Type 0 where
@@ -214,16 +180,16 @@ line-down base stride g n l l' l'' x pos e ex e'' =
 
 -- ---- a whole line: s₀ before, s₁ after elimination, s₂ after back substitution
 
-module _ (f : Format) (first : Reduced) (row : ℕ → Row) (n m : ℕ) (s₀ s₁ s₂ : List Float) (pos : 0 < n) (room : n ≤ m) (fits : m + n ≤ length s₀)
-    (e₁ : s₁ ≡ line_scratch m (λ k. (forward f first row k).upper) (λ k. (forward f first row k).right) n s₀)
+module _ (f : Format) (first : Reduced) (inner : ℕ → Row) (last : Row) (n m : ℕ) (s₀ s₁ s₂ : List Float) (pos : 0 < n) (room : n ≤ m) (fits : m + n ≤ length s₀)
+    (e₁ : s₁ ≡ line_scratch m (at (uppers (forward f first inner last n))) (at (rights (forward f first inner last n))) n s₀)
     (e₂ : s₂ ≡ put (from m) (solved f n m s₁) n s₁) where
-  same : (k : ℕ) → solved f n m s₁ k ≡ solution f first row n k
-  same k = back-ext f (at s₁) (λ j. at s₁ (m + j)) (λ j. (forward f first row j).upper) (λ j. (forward f first row j).right) (n - 1)
+  same : (k : ℕ) → solved f n m s₁ k ≡ solution f first inner last n k
+  same k = back-ext f (at s₁) (λ j. at s₁ (m + j)) (at (uppers (forward f first inner last n))) (at (rights (forward f first inner last n))) (n - 1)
       (λ j h. rw e₁ (scratch-upper m _ _ n s₀ nan j (omega arith) room fits))
       (λ j h. rw e₁ (scratch-right m _ _ n s₀ nan j (omega arith) fits)) (n - 1 - k)
 
-  pub line-scratch : s₂ ≡ line_scratch m (λ k. (forward f first row k).upper) (solution f first row n) n s₀
-  line-scratch = e₂ ∙ put-ext (from m) _ _ n s₁ (λ k h. same k) ∙ rw e₁ (scratch-solved m _ _ (solution f first row n) n s₀ nan fits)
+  pub line-scratch : s₂ ≡ line_scratch m (at (uppers (forward f first inner last n))) (solution f first inner last n) n s₀
+  line-scratch = e₂ ∙ put-ext (from m) _ _ n s₁ (λ k h. same k) ∙ rw e₁ (scratch-solved m _ _ (solution f first inner last n) n s₀ nan fits)
 
-  pub line-coeffs : (place : ℕ → ℕ) (c : List Float) → put place (solved f n m s₁) n c ≡ put place (solution f first row n) n c
+  pub line-coeffs : (place : ℕ → ℕ) (c : List Float) → put place (solved f n m s₁) n c ≡ put place (solution f first inner last n) n c
   line-coeffs place c = put-ext place _ _ n c (λ k h. same k)

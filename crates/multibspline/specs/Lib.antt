@@ -5,3 +5,4 @@ pub mod Records
 pub mod Total
 pub mod Place
 pub mod Scratch
+pub mod ByNumber

@@ -1,6 +1,7 @@
 -- The Thomas algorithm on a tridiagonal system of n rows, each operation rounded to the format f.
 -- Row i says lower · x(i-1) + diag · x(i) + upper · x(i+1) = right. Assumes nothing.
-use Rattle.std.specs.Prelude.{ℕ, zero, suc, ◌-◌, List, get_or, Float}
+use Rattle.std.specs.Prelude.{ℕ, zero, suc, ◌-◌, List, [], ◌∷◌, ◌++◌, map, get_or, Float}
+use Rattle.std.specs.List.{range_with_len}
 use Rattle.std.specs.Float.Ieee as Ieee
 use Rattle.std.specs.Float.{Format, nan}
 
@@ -34,16 +35,32 @@ reduce f row before = record {
   right = Ieee.div f (Ieee.sub f row.right (Ieee.mul f row.lower before.right)) (denom f row before);
 }
 
--- forward elimination: row i reduced, from row 0 reduced and the rows after it
-abbrev pub forward : Format → Reduced → (ℕ → Row) → ℕ → Reduced
-forward f first row zero = first
-forward f first row (suc i) = reduce f (row (suc i)) (forward f first row i)
+-- ---- forward elimination: the first row, the inner rows 1 to n - 2, one after the other, and the last row
 
--- back substitution in a reduced row: x(i) = right - upper · x(i+1)
+-- the first row divided by its diagonal, as nothing stands before it; where its diagonal is 1 it is reduced as it stands
+abbrev pub divided : Format → Row → Reduced
+divided f row = record { upper = Ieee.div f row.upper row.diag; right = Ieee.div f row.right row.diag }
+
+-- inner row i reduced, with the rows before it; row 0 is the first
+abbrev pub inner_reduced : Format → Reduced → (ℕ → Row) → ℕ → Reduced
+inner_reduced f first inner zero = first
+inner_reduced f first inner (suc i) = reduce f (inner (suc i)) (inner_reduced f first inner i)
+
+-- the last of n rows reduced
+abbrev pub last_reduced : Format → Reduced → (ℕ → Row) → Row → ℕ → Reduced
+last_reduced f first inner last n = reduce f last (inner_reduced f first inner (n - 2))
+
+-- the n rows reduced
+abbrev pub forward : Format → Reduced → (ℕ → Row) → Row → ℕ → List Reduced
+forward f first inner last n = map (inner_reduced f first inner) (range_with_len 0 (n - 1)) ++ last_reduced f first inner last n ∷ []
+
+-- ---- back substitution, from the last row to the first
+
+-- in a reduced row: x(i) = right - upper · x(i+1)
 abbrev pub back_step : Format → Float → Float → Float → Float
 back_step f upper right next = Ieee.sub f right (Ieee.mul f upper next)
 
--- back substitution: x(last - k), from x(last) = right(last)
+-- x(last - k), from x(last) = right(last)
 abbrev pub back : Format → (ℕ → Float) → (ℕ → Float) → ℕ → ℕ → Float
 back f upper right last zero = right last
 back f upper right last (suc k) = back_step f (upper (last - suc k)) (right (last - suc k)) (back f upper right last k)
@@ -52,10 +69,20 @@ back f upper right last (suc k) = back_step f (upper (last - suc k)) (right (las
 abbrev pub back_at : Format → (ℕ → Float) → (ℕ → Float) → ℕ → ℕ → Float
 back_at f upper right last i = back f upper right last (last - i)
 
--- x(i) of a system of n rows, from row 0 reduced and the rows after it
-abbrev pub solution : Format → Reduced → (ℕ → Row) → ℕ → ℕ → Float
-solution f first row n i = back_at f (λ k. (forward f first row k).upper) (λ k. (forward f first row k).right) (n - 1) i
-
 -- number i of a list
 abbrev pub at : List Float → ℕ → Float
 at xs i = get_or xs i nan
+
+-- the upper numbers and the right sides of reduced rows
+abbrev pub uppers : List Reduced → List Float
+uppers rows = map (λ (row : Reduced). row.upper) rows
+
+abbrev pub rights : List Reduced → List Float
+rights rows = map (λ (row : Reduced). row.right) rows
+
+-- ---- x(i) of a system of n rows: forward elimination and back substitution
+
+abbrev pub solution : Format → Reduced → (ℕ → Row) → Row → ℕ → ℕ → Float
+solution f first inner last n i =
+    let rows = forward f first inner last n in
+    back_at f (at (uppers rows)) (at (rights rows)) (n - 1) i

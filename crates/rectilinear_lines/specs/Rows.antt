@@ -2,11 +2,11 @@
 -- give its row. The two end rows have the ghost coefficient of their end folded in, and the third term that this brings is
 -- eliminated by the row beside. Each operation is rounded to the format f, in the Rust's order. Assumes nothing.
 --     low, high   the ghost numbers of the two ends
-use Rattle.std.specs.Prelude.{ℕ, ◌-◌, cond, List, eqb, length, Float}
+use Rattle.std.specs.Prelude.{ℕ, ◌-◌, List, length, Float}
 use Rattle.std.specs.Float.{Format}
 use Rattle.std.specs.Float.Ieee.{add, sub, mul, div}
 use Rattle.multibspline.specs.Numbers.{f0}
-use Rattle.multibspline.specs.Thomas.{Left, Row, Reduced, with_right, at}
+use Rattle.multibspline.specs.Thomas.{Left, Row, Reduced, with_right, divided, at}
 use Rattle.lines.specs.Rows as Lines
 use Rattle.lines.specs.Rows.{Rows}
 use Rattle.lines.specs.Turns.{less_cell, step_cell}
@@ -54,10 +54,7 @@ low_row f w v low y0 y1 = with_right (low_left f w v low) (less f y0 (low_factor
 abbrev pub high_row : Format → List Float → List Float → List Float → Float → Float → Row
 high_row f w v high before y = with_right (high_left f w v high) (less f y (high_factor f w v high) before)
 
--- the first row reduced: nothing stands before it, so that it is divided by its diagonal
-abbrev pub divided : Format → Row → Reduced
-divided f row = record { upper = div f row.upper row.diag; right = div f row.right row.diag }
-
+-- the first row is reduced by its diagonal
 abbrev pub first_row : Format → List Float → List Float → (ℕ → Float) → Reduced
 first_row f ks low y = divided f (low_row f (at_knot f ks 0 0) (at_knot f ks 1 1) low (y 0) (y 1))
 
@@ -68,10 +65,6 @@ abbrev pub last_row : Format → List Float → List Float → (ℕ → Float) �
 last_row f ks high y =
     let n = length ks in
     high_row f (at_knot f ks (n - 2) (n - 1)) (at_knot f ks (n - 2) (n - 2)) high (y (n - 2)) (y (n - 1))
-
--- row i, after the first
-abbrev pub row : Format → List Float → List Float → (ℕ → Float) → ℕ → Row
-row f ks high y i = cond (eqb i (length ks - 1)) (last_row f ks high y) (inner_row f ks y i)
 
 module _ (f : Format) (ks low high : List Float) where
   -- the same rows by their left and right sides: the system of the lines of the axis
@@ -92,11 +85,11 @@ module _ (f : Format) (ks low high : List Float) where
         last_right = less_cell f (high_factor f w' v' high);
       }
 
-  -- row i reduced
-  abbrev pub reduced : (ℕ → Float) → ℕ → Reduced
-  reduced y i = Lines.reduced system y f i
+  -- the rows reduced, from the first to the last
+  abbrev pub reduced : (ℕ → Float) → List Reduced
+  reduced y = Lines.reduced system y f
 
-  -- its upper number
+  -- upper number i
   abbrev pub upper_number : (ℕ → Float) → ℕ → Float
   upper_number y i = Lines.upper_number f system y i
 

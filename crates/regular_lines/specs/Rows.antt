@@ -1,6 +1,6 @@
 -- The system of one line of a regular grid: n samples y, n coefficients x. Rows: first 1, -1 with y(0) - y(1); inner 1, 4, 1
 -- with 6 y(i); last -1, 1 with y(n-1) - y(n-2). Each operation is rounded to the format f. Assumes nothing.
-use Rattle.std.specs.Prelude.{ℕ, ◌-◌, cond, eqb, Float}
+use Rattle.std.specs.Prelude.{ℕ, ◌-◌, List, Float}
 use Rattle.std.specs.Float.Ieee as Ieee
 use Rattle.std.specs.Float.{Format}
 use Rattle.multibspline.specs.Numbers.{f0, f1, f-1, f4, f6}
@@ -17,12 +17,8 @@ abbrev pub inner_row : Format → (ℕ → Float) → ℕ → Row
 inner_row f y i = record { lower = f1; diag = f4; upper = f1; right = Ieee.mul f f6 (y i) }
 
 -- the last row has no upper number: 0 stands for it
-abbrev pub last_row : Format → (ℕ → Float) → ℕ → Row
-last_row f y i = record { lower = f-1; diag = f1; upper = f0; right = Ieee.sub f (y i) (y (i - 1)) }
-
--- row i, after the first
-abbrev pub row : Format → ℕ → (ℕ → Float) → ℕ → Row
-row f n y i = cond (eqb i (n - 1)) (last_row f y i) (inner_row f y i)
+abbrev pub last_row : Format → ℕ → (ℕ → Float) → Row
+last_row f n y = record { lower = f-1; diag = f1; upper = f0; right = Ieee.sub f (y (n - 1)) (y (n - 2)) }
 
 -- the same rows by their left and right sides: the system of the lines of an axis of n points
 abbrev pub system : Format → ℕ → Rows
@@ -36,11 +32,11 @@ system f n = record {
   last_right = differ_cell f;
 }
 
--- row i reduced
-abbrev pub reduced : Format → ℕ → (ℕ → Float) → ℕ → Reduced
-reduced f n y i = Lines.reduced (system f n) y f i
+-- the rows reduced, from the first to the last
+abbrev pub reduced : Format → ℕ → (ℕ → Float) → List Reduced
+reduced f n y = Lines.reduced (system f n) y f
 
--- its upper number
+-- upper number i
 abbrev pub upper_number : Format → ℕ → (ℕ → Float) → ℕ → Float
 upper_number f n y i = Lines.upper_number f (system f n) y i
 
