@@ -26,8 +26,8 @@ returns g c =
       cells = c.inner_uppers.ensures;
     } in
     let last =
-        (rw c.points-last.ensures at c.upper_from.ensures)
-        ∙ ap (λ (left : Left). upper_from binary64 left (at c.inner_uppers.new.upper (s.points - 1 - 1))) c.last_row.ensures.left in
+    (rw c.points-last.ensures at c.upper_from.ensures)
+    ∙ ap (λ (left : Left). upper_from binary64 left (at c.inner_uppers.new.upper (s.points - 1 - 1))) c.last_row.ensures.left in
     let goes = upper_last binary64 s four zero_samples in
     rw c.points-last.ensures
     ((filled-by (upper_from binary64 s.last) before (omega (arith, four)) (omega (arith, four)) c.requires refl last (rw two goes)).cells
