@@ -1,5 +1,6 @@
 -- The Thomas algorithm on a tridiagonal system of n rows, each operation rounded to the format f.
--- Row i says lower · x(i-1) + diag · x(i) + upper · x(i+1) = right. Assumes nothing.
+-- Row i says lower · x(i-1) + diag · x(i) + upper · x(i+1) = right. Four steps: the first row, the inner rows, the last row, back
+-- substitution. Assumes nothing.
 use Rattle.std.specs.Prelude.{ℕ, zero, suc, ◌-◌, List, [], ◌∷◌, ◌++◌, map, get_or, Float}
 use Rattle.std.specs.List.{range_with_len}
 use Rattle.std.specs.Float.Ieee as Ieee
@@ -35,26 +36,28 @@ reduce f row before = record {
   right = Ieee.div f (Ieee.sub f row.right (Ieee.mul f row.lower before.right)) (denom f row before);
 }
 
--- ---- forward elimination: the first row, the inner rows 1 to n - 2, one after the other, and the last row
+-- ---- 1. the first row: divided by its diagonal, since nothing stands before it. Where that is 1 it is reduced as it stands
 
--- the first row divided by its diagonal, as nothing stands before it; where its diagonal is 1 it is reduced as it stands
 abbrev pub divided : Format → Row → Reduced
 divided f row = record { upper = Ieee.div f row.upper row.diag; right = Ieee.div f row.right row.diag }
 
--- inner row i reduced, with the rows before it; row 0 is the first
+-- ---- 2. the inner rows, 1 to n - 2, one after the other
+
+-- row i reduced, with the rows before it; row 0 is the first
 abbrev pub inner_reduced : Format → Reduced → (ℕ → Row) → ℕ → Reduced
 inner_reduced f first inner zero = first
 inner_reduced f first inner (suc i) = reduce f (inner (suc i)) (inner_reduced f first inner i)
 
--- the last of n rows reduced
+-- ---- 3. the last row, n - 1
+
 abbrev pub last_reduced : Format → Reduced → (ℕ → Row) → Row → ℕ → Reduced
 last_reduced f first inner last n = reduce f last (inner_reduced f first inner (n - 2))
 
--- the n rows reduced
+-- the n rows reduced, from the first to the last
 abbrev pub forward : Format → Reduced → (ℕ → Row) → Row → ℕ → List Reduced
 forward f first inner last n = map (inner_reduced f first inner) (range_with_len 0 (n - 1)) ++ last_reduced f first inner last n ∷ []
 
--- ---- back substitution, from the last row to the first
+-- ---- 4. back substitution, from x(n - 1) to x(0)
 
 -- in a reduced row: x(i) = right - upper · x(i+1)
 abbrev pub back_step : Format → Float → Float → Float → Float
