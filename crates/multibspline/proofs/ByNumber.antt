@@ -1,6 +1,7 @@
 -- The solve as the books print it is the solve as it was defined before: in every upper number, every coefficient and every cell of
 -- scratch. For both formats and any rows. Assumes nothing.
-use mathlib.Core.Path.{◌≡◌, refl, ap, sym, ◌∙◌}
+use mathlib.Core.Path.{◌≡◌, refl, ap, ap₂, sym, ◌∙◌}
+use mathlib.Core.Bool.{Bool, cond}
 use mathlib.Core.Logic.{⊎_elim}
 use mathlib.Core.List.{map}
 use Prim.Native.Nat.{ℕ, zero, suc, ◌-◌, ◌≤◌, ◌<◌}
@@ -16,18 +17,20 @@ use Rattle.multibspline.proofs.Sweeps.{back-ext}
 use Rattle.multibspline.proofs.Thomas.{number-inner, number_last}
 
 module _ (f : Format) (first : Reduced) (inner : ℕ → Row) (last : Row) (n : ℕ) (four : 4 ≤ n) where
+  row-inner : (i : ℕ) → i < n - 1 → row inner last n i ≡ inner i
+  row-inner i h = ap (λ (b : Bool). cond b last (inner i)) (ne_eqb i _ (λ e. omega arith))
+
+  row_last : row inner last n (n - 1) ≡ last
+  row_last = ap (λ (b : Bool). cond b last (inner (n - 1))) (eq-eqb (n - 1) _ refl)
+
   reduced-inner : (i : ℕ) → i < n - 1 → inner_reduced f first inner i ≡ reduced f first (row inner last n) i
   reduced-inner zero h = refl
-  reduced-inner (suc i) h = rw (ne_eqb (suc i) (n - 1) (λ e. omega arith), reduced-inner i (omega arith))
-
-  -- the row whose number is the last's
-  at-last : (k : ℕ) → suc k ≡ n - 1 → reduced f first (row inner last n) (suc k) ≡ reduce f last (reduced f first (row inner last n) k)
-  at-last k e = rw (eq-eqb (suc k) (n - 1) e)
+  reduced-inner (suc i) h = ap₂ (reduce f) (sym (row-inner (suc i) h)) (reduced-inner i (omega arith))
 
   reduced_last : last_reduced f first inner last n ≡ reduced f first (row inner last n) (n - 1)
   reduced_last =
       let a : suc (n - 2) ≡ n - 1 = omega arith in
-      ap (reduce f last) (reduced-inner (n - 2) (omega arith)) ∙ sym (at-last (n - 2) a) ∙ ap (reduced f first (row inner last n)) a
+      ap₂ (reduce f) (sym row_last ∙ ap (row inner last n) (sym a)) (reduced-inner (n - 2) (omega arith)) ∙ ap (reduced f first (row inner last n)) a
 
   -- a number of row i
   numbers : (number : Reduced → Float) (i : ℕ) → i < n → at (map number (forward f first inner last n)) i ≡ number (reduced f first (row inner last n) i)

@@ -11,8 +11,8 @@ use lib.Ieee.{Float, Format, nan}
 use Rattle.shape.specs.Cells.{put, from, on_line, write_line}
 use Rattle.shape.specs.Fit.{line_scratch}
 use Rattle.shape.proofs.Cells.{put-ext, from-unique, line-apart}
-use Rattle.shape.proofs.Scratch.{put-set, scratch-upper, scratch-right, scratch-next, scratch-over, scratch-ext, scratch-solved, length-scratch}
-use Rattle.multibspline.specs.Thomas.{Row, Reduced, at, uppers, rights, reduce, inner_reduced, last_reduced, forward, back, back_at, back_step, solution}
+use Rattle.shape.proofs.Scratch.{put-set, scratch-upper, scratch-right, scratch-next, scratch-over, scratch-solved}
+use Rattle.multibspline.specs.Thomas.{Row, Reduced, at, uppers, rights, reduce, inner_reduced, forward, back, back_at, back_step, solution}
 use Rattle.multibspline.specs.Scratch.{with_reduced, solved, put_down}
 
 -- ---- the copy of the samples: cells below i are copied
