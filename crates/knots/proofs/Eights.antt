@@ -93,5 +93,9 @@ module _ (ks : List Float) where
       ∙ ap (λ (r : Bool). nine a && r) (nines-from (a + 1) k (omega arith) ∙ ap (λ (n : ℕ). rises (drop n ks)) (sym e8) ∙ ap rises (sym (drop-drop 8 (8 * a) ks)))
       ∙ rises-cut ds 8 within)
 
-  pub nines : (k : ℕ) → 8 * k < length ks → (list_all nine (range_with_len 0 k) && rises (drop (8 * k) ks)) ≡ rises ks
+  nines : (k : ℕ) → 8 * k < length ks → (list_all nine (range_with_len 0 k) && rises (drop (8 * k) ks)) ≡ rises ks
   nines k l = let e : 0 + k ≡ k = omega arith in rw e at (nines-from 0 k (omega arith))
+
+  -- the answer of a test of all the nines, and that of what is left
+  pub by_nines : (b : Bool) (k : ℕ) → 8 * k < length ks → b ≡ list_all nine (range_with_len 0 k) → b && rises (drop (8 * k) ks) ≡ rises ks
+  by_nines b k l e = rw e (nines k l)

@@ -19,11 +19,9 @@ fn nine_rise(knots: &[f64], from: usize) -> bool
 
 // Whether knots rise, each looked at by itself.
 fn few_rise(knots: &[f64]) -> bool
+    requires { 1 ≤ length knots.now }
     ensures { result ≡ rises knots.now }
 {
-    if knots.is_empty() {
-        return true;
-    }
     knots
         .iter()
         .zip(&knots[1..])

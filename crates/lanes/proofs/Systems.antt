@@ -20,33 +20,28 @@ module _ (f : Format) (s : Rows) (four : 4 ≤ s.points) where
   -- ---- a row's numbers, by its number
 
   module _ (y : ℕ → Float) where
-    -- row i, of those before the last, and the last
-    inner : ℕ → Reduced
+    -- row i, of those before the last
+    abbrev inner : ℕ → Reduced
     inner i = inner_reduced f (first_row s y) (inner_row s y) i
 
     upper-at : (i : ℕ) → i < s.points - 1 → upper_number f s y i ≡ (inner i).upper
-    unfolding inner
     upper-at i h = number-inner f (first_row s y) (inner_row s y) (last_row s y) s.points (λ (r : Reduced). r.upper) i h
 
     right_at : (i : ℕ) → i < s.points - 1 → right_side f s y i ≡ (inner i).right
-    unfolding inner
     right_at i h = number-inner f (first_row s y) (inner_row s y) (last_row s y) s.points (λ (r : Reduced). r.right) i h
 
     -- ---- the upper numbers, each from the one before
 
     pub upper_first : s.first_upper ≡ upper_number f s y 0
-    unfolding inner
     upper_first = sym (upper-at 0 (omega arith))
 
     pub upper-next : (i : ℕ) → 0 < i → i < s.points - 1 → upper_from f (s.inner i) (upper_number f s y (i - 1)) ≡ upper_number f s y i
-    unfolding inner
     upper-next zero some h = absurd (omega arith)
     upper-next (suc i) some h =
         let a : suc i - 1 ≡ i = omega arith in
         rw a (ap (upper_from f (s.inner (suc i))) (upper-at i (omega arith)) ∙ sym (upper-at (suc i) h))
 
     pub upper_last : upper_from f s.last (upper_number f s y (s.points - 2)) ≡ upper_number f s y (s.points - 1)
-    unfolding inner
     upper_last =
         ap (upper_from f s.last) (upper-at (s.points - 2) (omega arith))
         ∙ sym (number_last f (first_row s y) (inner_row s y) (last_row s y) s.points (λ (r : Reduced). r.upper))
@@ -71,7 +66,7 @@ module _ (f : Format) (s : Rows) (four : 4 ≤ s.points) where
 
   module _ (u : List Float) (o : Uppers (upper_number f s) s.points u) where
     pub scheme : Scheme s.points (right_side f s) (coefficient f s) s.first_right s.last_right (last_at f s.last s.points u) (inner_at f s u) (back_cell f u)
-    unfolding inner inner_at last_at back_cell
+    unfolding inner_at last_at back_cell
     scheme = record {
       at_low = (λ y. sym (right_at y 0 (omega arith)));
       at_inner = (λ y i h.

@@ -4,7 +4,7 @@ use Prim.Native.Nat.{ℕ, ◌-◌, ◌≤◌, ◌<◌}
 use native.Mathlib.Omega.{arith}
 use lib.Ieee.{Float, Format}
 use Rattle.shape.specs.Fit.{Looks}
-use Rattle.multibspline.proofs.Thomas.{forward-ext, solution-ext}
+use Rattle.multibspline.proofs.Thomas.{forward-ext}
 use Rattle.lines.specs.Rows.{Rows, first_row, inner_row, last_row, reduced, upper_number, coefficient}
 
 module _ (s : Rows) (four : 4 ≤ s.points) (y z : ℕ → Float) (e : (k : ℕ) → k < s.points → y k ≡ z k) where
@@ -24,5 +24,4 @@ pub looks-upper : (f : Format) (s : Rows) → 4 ≤ s.points → Looks (upper_nu
 looks-upper f s four y z e i h = rw (reduced-ext s four y z e f)
 
 pub looks-coefficient : (f : Format) (s : Rows) → 4 ≤ s.points → Looks (coefficient f s) s.points
-looks-coefficient f s four y z e i h =
-    solution-ext f s.points _ _ _ _ _ _ (first-ext s four y z e) (inner-ext s four y z e) (last-ext s four y z e) (omega arith) i
+looks-coefficient f s four y z e i h = rw (reduced-ext s four y z e f)

@@ -11,27 +11,24 @@ use Rattle.std.proofs.lemmas.List.{map-append, get_or_append_left, get_or_at}
 use Rattle.std.proofs.lemmas.List.FromFn.{get_or-map-range_with_len, length-map-range_with_len}
 use Rattle.shape.specs.Fit.{line_scratch}
 use Rattle.shape.proofs.Scratch.{scratch-next, scratch-ext}
-use Rattle.multibspline.specs.Thomas.{Row, Reduced, at, uppers, rights, reduce, inner_reduced, last_reduced, forward, solution}
+use Rattle.multibspline.specs.Thomas.{Row, Reduced, at, uppers, rights, reduce, inner_reduced, last_reduced, forward}
 use Rattle.multibspline.specs.Scratch.{with_reduced}
 
 module _ (f : Format) (first : Reduced) (inner : ℕ → Row) (last : Row) (n : ℕ) where
   -- ---- a number of each row: of the first and the inner rows, and of the last
   module _ (number : Reduced → Float) where
-    before : List Float
+    abbrev before : List Float
     before = map (λ i. number (inner_reduced f first inner i)) (range_with_len 0 (n - 1))
 
     length-before : length before ≡ n - 1
-    unfolding before
     length-before = length-map-range_with_len (λ i. number (inner_reduced f first inner i)) 0 (n - 1)
 
     numbers : map number (forward f first inner last n) ≡ before ++ number (last_reduced f first inner last n) ∷ []
-    unfolding before
     numbers =
         map-append number (map (inner_reduced f first inner) (range_with_len 0 (n - 1))) (last_reduced f first inner last n ∷ [])
         ∙ ap (λ (rows : List Float). rows ++ number (last_reduced f first inner last n) ∷ []) (map-map number (inner_reduced f first inner) (range_with_len 0 (n - 1)))
 
     pub number-inner : (i : ℕ) → i < n - 1 → at (map number (forward f first inner last n)) i ≡ number (inner_reduced f first inner i)
-    unfolding before
     number-inner i h =
         ap (λ (xs : List Float). at xs i) numbers ∙ get_or_append_left before _ nan i (omega (arith, length-before))
         ∙ get_or-map-range_with_len (λ j. number (inner_reduced f first inner j)) 0 (n - 1) i i nan h (omega arith)
@@ -68,6 +65,3 @@ module _ (f : Format) (n : ℕ) (first first' : Reduced) (inner inner' : ℕ →
 
   pub forward-ext : forward f first inner last n ≡ forward f first' inner' last' n
   forward-ext = ap₂ (λ (rows : List Reduced) (r : Reduced). rows ++ r ∷ []) (rows-ext 0 (n - 1) (omega arith)) (ap₂ (reduce f) same_last (inner-ext (n - 2) (omega arith)))
-
-  pub solution-ext : (i : ℕ) → solution f first inner last n i ≡ solution f first' inner' last' n i
-  solution-ext i = rw forward-ext

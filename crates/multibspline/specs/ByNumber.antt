@@ -1,5 +1,5 @@
 -- The solve as it was defined before: one function for all rows after the first, which tests for the last row by its number. Kept
--- for the theorem that it is the same as Thomas.antt, which alone cites this file. Assumes nothing.
+-- for the theorem that it is the same as Thomas.antt; that and its two instances alone cite this file. Assumes nothing.
 use Rattle.std.specs.Prelude.{◌≡◌, ℕ, zero, suc, ◌-◌, ◌<◌, cond, List, eqb, Float}
 use Rattle.std.specs.Float.{Format}
 use Rattle.shape.specs.Fit.{line_scratch}

@@ -1,4 +1,4 @@
--- A line, and all the lines of an axis, by the numbers that the code works out, for any way of solving a line. Assumes nothing.
+-- A line, by the numbers that the code works out, for any way of solving a line. Assumes nothing.
 use mathlib.Core.Path.{◌≡◌}
 use mathlib.Core.List.{List}
 use Prim.Native.Nat.{ℕ, ◌*◌, ◌≤◌, ◌<◌}
@@ -8,8 +8,6 @@ use Rattle.shape.specs.Cells.{line, write_line}
 use Rattle.shape.specs.Checks.{most_points}
 use Rattle.shape.specs.Fit.{solve_line, line_scratch, line_leaves}
 use Rattle.shape.specs.Usable.{LinesWithin}
-
--- ---- one line
 
 -- the first cell is a number that the code can work out
 pub first-cell-room : {n s lines m coefs scratch l : ℕ} → LinesWithin n s lines m coefs scratch → l < lines → (0 < s) × (n * s ≤ most_points) × (first_cell n s l < most_points)
@@ -25,5 +23,3 @@ module _ {A : Type 0} (o : A) (upper solve : (ℕ → A) → ℕ → A) (n s m :
     pub nth-scratch : {ss' : List A} → ss' ≡ line_scratch m (upper (line o b s xs)) (solve (line o b s xs)) n ss → ss' ≡ line_leaves o upper solve n s m l xs ss
     unfolding line_leaves
     nth-scratch w = rw e at w
-
--- ---- an axis, by the numbers and the solver of a line that the code works out

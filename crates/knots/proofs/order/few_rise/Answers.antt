@@ -6,11 +6,8 @@ use lib.Ieee.{Float, lt}
 use Rattle.std.proofs.Common.{rules, tests}
 use Rattle.std.proofs.lemmas.Iterator.{YieldsList-from_slice, YieldsList-from_zip}
 use Rattle.std.proofs.lemmas.Iterator.Search.{all_from_yields_List}
-use Rattle.knots.proofs.Increase.{rises-by-pairs, rises-short}
+use Rattle.knots.proofs.Increase.{rises-by-pairs}
 use Rattle.knots.proofs.order.few_rise.Goals as goal
-
-pub returns-then-is_empty : goal.returns-then-is_empty
-returns-then-is_empty c = search (rules, tests, rises-short)
 
 pub returns : goal.returns
 returns c =
