@@ -45,6 +45,7 @@ pub fn put_places<A: Axis>(
     requires small { ((A.view axis).points * stride ≤ most_points) × ((k : ℕ) → k < length xs.now → (get_or spots.old k no_spot).first ≤ most_points) }
     ensures placed { Placed (A.view axis) stride xs.now spots.old result spots.new }
     ensures kept { (k : ℕ) (none : A.Place) → k < result → A.Kept axis (get_or xs.now k nan) (get_or places.new k none) }
+    ensures rest { (k : ℕ) → result ≤ k → get_or spots.new k no_spot ≡ get_or spots.old k no_spot }
 {
     for (k, x) in xs.iter().enumerate() {
         match axis.place(*x) {
@@ -112,7 +113,8 @@ pub fn put_rows<T: Table, A: Axis>(
 )
     requires enough { (a < 4) × (length xs.now ≤ length places.now) × (length xs.now ≤ length spots.old) }
     requires kept { (k : ℕ) (none : A.Place) → k < length xs.now → A.Kept axis (get_or xs.now k nan) (get_or places.now k none) }
-    ensures { (k : ℕ) → k < length xs.now → T.Puts (A.view axis) a (get_or xs.now k nan) (get_or spots.old k no_spot) (get_or spots.new k no_spot) }
+    ensures puts { (k : ℕ) → k < length xs.now → T.Puts (A.view axis) a (get_or xs.now k nan) (get_or spots.old k no_spot) (get_or spots.new k no_spot) }
+    ensures rest { (k : ℕ) → length xs.now ≤ k → get_or spots.new k no_spot ≡ get_or spots.old k no_spot }
 {
     for (k, x) in xs.iter().enumerate() {
         T::put(axis, a, places[k], *x, &mut spots[k]);
