@@ -1,5 +1,5 @@
--- The map that a joined grid makes, with the ghost numbers that its knots give: an axis looks at its own, and it is the map that
--- building makes. For every format. Assumes nothing.
+-- The map that a joined grid makes, with the ghost numbers that its knots give: the places look at none, an axis at its own, and it
+-- is the map that building makes. For every format. Assumes nothing.
 use mathlib.Core.Path.{◌≡◌, refl, sym, subst}
 use mathlib.Core.Bool.{Bool}
 use mathlib.Core.List.{List, []}
@@ -15,11 +15,18 @@ use Rattle.evaluation.specs.Axis.{AxisOf}
 use Rattle.evaluation.specs.Spline.{Spline, OneValue}
 use Rattle.evaluation.proofs.Entries.{axis-at}
 use Rattle.rectilinear_axis.specs.Axis.{rectilinear_axis}
+use Rattle.rectilinear_blocks.specs.Map.{RectilinearMap}
 use Rattle.rectilinear_blocks.specs.Eval.{rectilinear_axes, rectilinear}
 use Rattle.rectilinear_blocks.specs.Sound.{Gridded}
 use Rattle.rectilinear_blocks.proofs.Room.{axis-of}
 use Rattle.rectilinear_map.specs.Map.{low_ghosts, high_ghosts, of_grid, made}
 use Rattle.rectilinear_map.proofs.InUse.{unused-not-looked-at}
+
+-- the places of a query, whatever the ghost numbers of m are
+pub own-places : (f : Format) (m : RectilinearMap) (grid x : List Float) (a : ℕ)
+    → ((rectilinear_axes f m grid).no_place x a ≡ (rectilinear_axes f (of_grid f m.count m.lens grid m.linear) grid).no_place x a)
+    × ((rectilinear_axes f m grid).origin x a ≡ (rectilinear_axes f (of_grid f m.count m.lens grid m.linear) grid).origin x a)
+own-places f m grid x a = (refl, refl)
 
 -- an axis by its knots ks
 pub own-axis : (f : Format) (count : ℕ) (lens : List ℕ) (grid : List Float) (linear : Bool) → length lens ≡ 4 → Gridded count lens grid → (a : ℕ) → a < count → {ks : List Float} → ks ≡ knots_of grid (take count lens) a
