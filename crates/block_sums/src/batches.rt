@@ -1,4 +1,4 @@
-// The queries of a batch, block after block of 32, in the buffers of a block. A batch that is refused at an entry has written the
+// The queries of a batch, block after block of 20, in the buffers of a block. A batch that is refused at an entry has written the
 // entries before it and none from it on.
 ghost use Rattle.std.specs.Prelude.{◌≡◌, List, ◌*◌, ◌≤◌, length, take};
 ghost use Rattle.std.specs.Float.{binary64};
@@ -25,10 +25,10 @@ pub fn batch<F: Figures, M: Map>(
     requires room { ((M.view map.now).count * n ≤ length xs.now) × (F.numbers (M.view map.now).count n ≤ length out.old) }
     ensures { (checks : List Check) → Entries (bad_at (spline_of binary64 (M.view map.now) checks coeffs.now) xs.now n) (F.step (spline_of binary64 (M.view map.now) checks coeffs.now) xs.now n) n out.old (answer_number result) out.new }
 {
-    let mut places = [<M::Along as Axis>::blank(); 32];
-    let mut spots = [Spot::blank(); 32];
+    let mut places = [<M::Along as Axis>::blank(); 20];
+    let mut spots = [Spot::blank(); 20];
     let mut from: usize = 0;
-    // not `(0..n).step_by(32)`: a block is as long as `block_size` says, and what is written so far ends at `from`, never past n
+    // not `(0..n).step_by(20)`: a block is as long as `block_size` says, and what is written so far ends at `from`, never past n
     while from < n {
         let m = block_size(from, n);
         let s = Span { xs, n, from, m };

@@ -54,7 +54,9 @@ impl Axes {
         span(&self.dims[..axis]) * self.stride(axis)
     }
 
-    // The numbers of a line, unless there is no such axis or line.
+    // The numbers of a line, unless there is no such axis or line. Compiled into its callers: the first cell alone needs no longest
+    // axis.
+    #[inline(always)]
     pub fn line(self, axis: usize, line: usize) -> Option<Line>
         ensures { LineLooked (take self.count self.dims) axis line result }
     {

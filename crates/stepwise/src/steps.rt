@@ -14,7 +14,9 @@ use fits::solve_found;
 use ledger::{bump_line, check_held, check_lent, check_scratch, find_due, start};
 use shape::{Axes, Refusal, Shape};
 
-// What begin and the line call check first: the shape, the grid, the lengths of the coefficients and the ledger, and the knots.
+// What begin and the line call check first: the shape, the grid, the lengths of the coefficients and the ledger, and the knots. This
+// and the checks of begin are compiled into the calls: the axes that a check has accepted are then not laid out once more on the stack.
+#[inline(always)]
 fn check_ready<S: Spacing>(
     shape: Shape,
     spacing: S,
@@ -32,6 +34,7 @@ fn check_ready<S: Spacing>(
 }
 
 // The checks of begin, from the lengths of its buffers.
+#[inline(always)]
 pub fn check_begin<S: Spacing>(
     shape: Shape,
     spacing: S,
